@@ -1,0 +1,11 @@
+pub mod Comparing
+pub mod Stages
+pub mod ActorLists
+pub mod Histories
+pub mod Rows
+pub mod Facts
+pub mod WordSteps
+pub mod CommitStep
+pub mod SeatSteps
+pub mod Ends
+pub mod InHand

@@ -1,0 +1,6 @@
+use Rattle.std.proofs.Common.{rules}
+use Rattle.turn_lock.proofs.InHand.{something, in_hand}
+use Rattle.turn_lock.proofs.lock.Held.machine.Goals as goal
+
+pub slot_mut-requires : goal.slot_mut-requires
+slot_mut-requires g c = let x = something _ c.requires.held.1 in (search rules, (x.0, in_hand _ x.0 x.1))

@@ -1,0 +1,10 @@
+pub mod Actors
+pub mod History
+pub mod Views
+pub mod Rule
+pub mod Steps
+pub mod Pass
+pub mod Held
+pub mod Lent
+pub mod Seats
+pub mod Turned

@@ -1,0 +1,168 @@
+ghost use Rattle.std.specs.Prelude.{◌≡◌, ◌∷◌, ◌++◌, [], Contains, MatchOption, MatchResult};
+ghost use Rattle.turn_lock.specs.Turned.{Stays, Adds};
+
+use crate::{Machine, Pass, Turn};
+use cal_value::NoMemory;
+use std::alloc::Global;
+use std::sync::Wait;
+use std::test::Fail;
+use std::thread::{Threads, join};
+
+/// Who made it, and the how-manieth of its maker it is.
+#[derive(Clone, Copy, Debug, PartialEq, Eq)]
+struct Entry {
+    actor: u32,
+    number: u64,
+}
+
+/// A list of numbered events, which begins from a name.
+#[derive(Drop)]
+struct Log {
+    name: u32,
+    entries: Vec<Entry>,
+}
+
+impl Machine for Log {
+    type Event = Entry;
+
+    type Base = u32;
+
+    ghost history = { λ log. log.entries.items };
+
+    ghost actor = { λ entry. entry.actor };
+
+    ghost base = { λ log. log.name };
+
+    fn count(&self) -> u64 {
+        self.entries.len() as u64
+    }
+}
+
+impl Log {
+    fn new(alloc: Global, name: u32) -> Log
+        ensures { (result.name ≡ name) × (result.entries.items ≡ []) }
+    {
+        Log {
+            name,
+            entries: Vec::new(alloc),
+        }
+    }
+
+    fn add(&mut self, entry: Entry) -> Result<(), NoMemory>
+        ensures name { self.new.name ≡ self.old.name }
+        ensures entries { MatchResult result (λ _. self.new.entries.items ≡ self.old.entries.items ++ entry ∷ []) (λ _. self.new.entries.items ≡ self.old.entries.items) }
+    {
+        self.entries.push(entry)?;
+        Ok(())
+    }
+}
+
+// One turn, in which this entry is committed where there is memory, and the place of the entry.
+fn commit_one<R: Wait>(
+    rt: &R,
+    turn: &Turn<Log>,
+    pass: Pass<Log>,
+    entry: Entry,
+) -> (Pass<Log>, Option<u64>)
+    requires lock { pass.lock ≡ turn.now.id }
+    requires own { Contains pass.actors entry.actor }
+    ensures { MatchOption result.1 (Stays (λ e. e.actor) pass result.0) (λ place. Adds (λ e. e.actor) pass entry place result.0) }
+{
+    let mut held = turn.enter(rt, pass);
+    match held.machine().add(entry) {
+        Ok(()) => {
+            let place = held.commit();
+            (held.leave(), Some(place))
+        }
+        Err(NoMemory) => (held.leave(), None),
+    }
+}
+
+// So many turns, each with an entry of this actor.
+fn commit_many<R: Wait>(
+    rt: &R,
+    turn: &Turn<Log>,
+    pass: Pass<Log>,
+    actor: u32,
+    turns: u64,
+) -> Pass<Log>
+    requires lock { pass.lock ≡ turn.now.id }
+    requires own { Contains pass.actors actor }
+    ensures { (result.lock ≡ pass.lock) × (result.actors ≡ pass.actors) }
+{
+    let mut pass = pass;
+    for number in 0..turns {
+        (pass, _) = commit_one(rt, turn, pass, Entry { actor, number });
+    }
+    pass
+}
+
+// How many entries are by this actor, where their numbers are those from 0 on, in order.
+fn count_in_order(entries: &[Entry], actor: u32) -> Option<usize> {
+    let in_order = entries
+        .iter()
+        .filter(|entry| entry.actor == actor)
+        .enumerate()
+        .all(|(at, entry)| entry.number == at as u64);
+    let count = entries.iter().filter(|entry| entry.actor == actor).count();
+    in_order.then_some(count)
+}
+
+// Two threads, each with a pass and an actor of its own.
+fn commit_in_threads<R: Threads + Wait + Sync>(
+    rt: &R,
+    turn: &Turn<Log>,
+    first: Pass<Log>,
+    second: Pass<Log>,
+    turns: u64,
+) -> (Pass<Log>, Pass<Log>)
+    requires lock { (first.lock ≡ turn.now.id) × (second.lock ≡ turn.now.id) }
+    requires own { Contains first.actors 0 × Contains second.actors 1 }
+    ensures first { (result.0.lock ≡ first.lock) × (result.0.actors ≡ first.actors) }
+    ensures second { (result.1.lock ≡ second.lock) × (result.1.actors ≡ second.actors) }
+{
+    join(
+        rt,
+        || commit_many(rt, turn, first, 0, turns),
+        || commit_many(rt, turn, second, 1, turns),
+    )
+}
+
+#[test]
+fn a_pass_meets_what_another_committed(rt: HostRuntime) -> Result<(), Fail> {
+    let entries = [(0, 0), (1, 0), (0, 1)].map(|(actor, number)| Entry { actor, number });
+    let mut log = Log::new(rt.alloc(), 7);
+    log.add(entries[0])?;
+    let (turn, pass) = Turn::new(rt.alloc(), log, 2)?;
+    assert_eq!(rt; turn.seats(), 2);
+    assert_eq!(rt; pass.shares(), 2);
+    let (first, second) = turn.split(pass, 1);
+    assert_eq!(rt; (first.shares(), second.shares()), (1, 1));
+    let (second, place) = commit_one(&rt, &turn, second, entries[1]);
+    assert_eq!(rt; place, Some(2));
+    let first = turn.meet(first);
+    let (first, place) = commit_one(&rt, &turn, first, entries[2]);
+    assert_eq!(rt; place, Some(3));
+    let pass = turn.join(first, second);
+    assert_eq!(rt; pass.shares(), 2);
+    let log = turn.close(pass);
+    assert_eq!(rt; log.name, 7);
+    assert_eq!(rt; log.entries.as_slice(), entries.as_slice());
+    Ok(())
+}
+
+#[test]
+fn two_threads_commit_in_turn(rt: HostRuntime) -> Result<(), Fail> {
+    let (turn, pass) = Turn::new(rt.alloc(), Log::new(rt.alloc(), 0), 3)?;
+    let (pass, third) = turn.split(pass, 1);
+    let (first, second) = turn.split(pass, 1);
+    let (first, second) = commit_in_threads(&rt, &turn, first, second, 100);
+    let pass = turn.join(third, turn.join(second, first));
+    assert_eq!(rt; pass.shares(), turn.seats());
+    let log = turn.close(pass);
+    let entries = log.entries.as_slice();
+    assert_eq!(rt; entries.len(), 200);
+    assert_eq!(rt; count_in_order(entries, 0), Some(100));
+    assert_eq!(rt; count_in_order(entries, 1), Some(100));
+    Ok(())
+}
