@@ -1,0 +1,9 @@
+pub mod Alike
+pub mod Digits
+pub mod Front
+pub mod Space
+pub mod Writes
+pub mod Written
+pub mod Quotes
+pub mod Reading
+pub mod Runs
