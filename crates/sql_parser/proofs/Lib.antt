@@ -1,0 +1,13 @@
+pub mod Turns
+pub mod Steps
+pub mod Sound
+pub mod Room
+pub mod Follow
+pub mod Complete
+pub mod SoundList
+pub mod CompleteList
+pub mod SoundSelect
+pub mod SoundStatement
+pub mod CompleteSelect
+pub mod CompleteStatement
+pub mod Whole

@@ -1,0 +1,27 @@
+-- What the parser answers, and where each fault comes.
+use Rattle.std.specs.Prelude.{◌≡◌, ℕ, ◌<◌, ◌≤◌, Bool, true, false, List, Option, Some, None, Result, Ok, Err}
+use Rattle.sql_text.specs.declared.token.Token.{Token}
+use Rattle.sql_text.specs.declared.statement.Statement.{Statement}
+use Rattle.sql_parser.specs.declared.fault.ParseFault.{ParseFault}
+use Rattle.sql_parser.specs.declared.fault.ParseFault.TheVariants.{TooDeep, TooManyOperators, NotSql, NoMemory}
+use Rattle.sql_parser.specs.Limits.{most_open, operators, is_insert}
+use Rattle.sql_parser.specs.Grammar.{Spells}
+
+-- at most 64 brackets are open at any token, and unless the first token is INSERT there are at most 256 operators
+pub record IsWithinLimits (tokens : List Token) : Type 0 where
+  pub brackets : most_open 0 tokens ≤ 64
+  pub few : is_insert tokens ≡ false → operators tokens ≤ 256
+
+abbrev pub IsFaultOf : List Token → ParseFault → Type 0
+IsFaultOf tokens (TooDeep limit) = (limit ≡ 64) × (64 < most_open 0 tokens)
+IsFaultOf tokens (TooManyOperators limit) = (limit ≡ 256) × (most_open 0 tokens ≤ 64) × (is_insert tokens ≡ false) × (256 < operators tokens)
+IsFaultOf tokens NotSql = IsWithinLimits tokens × ((x : Statement) → Spells tokens x → ⊥)
+IsFaultOf tokens NoMemory = IsWithinLimits tokens
+
+-- a reader's answer, unless memory fails
+abbrev pub IsAnswer : Option Statement → Result Statement ParseFault → Type 0
+IsAnswer read (Ok x) = read ≡ Some x
+IsAnswer read (Err NotSql) = read ≡ None
+IsAnswer read (Err NoMemory) = Unit {0}
+IsAnswer read (Err (TooDeep limit)) = ⊥
+IsAnswer read (Err (TooManyOperators limit)) = ⊥
