@@ -1,0 +1,4 @@
+pub mod Narrower
+pub mod Ranges
+pub mod Typed
+pub mod TypingLemmas

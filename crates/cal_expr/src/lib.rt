@@ -1,0 +1,15 @@
+//! Expressions over the columns of a row: their types and their values.
+#![tactic(auto)]
+
+mod evaluate;
+mod expr;
+pub mod laws;
+mod typing;
+
+pub use cal_value::Op;
+pub use evaluate::eval;
+pub use expr::Expr;
+pub use typing::expr_type;
+
+#[cfg(test)]
+mod tests;
