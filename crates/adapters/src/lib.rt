@@ -1,0 +1,12 @@
+//! Adapters: how the rows of a table are scanned.
+#![tactic(auto)]
+
+mod adapter;
+mod request;
+mod walk;
+
+pub use adapter::{Adapter, AnyAdapter, CsvAdapter, MemAdapter};
+pub use request::{ColumnTest, ScanRequest};
+
+#[cfg(test)]
+mod tests;

@@ -1,0 +1,8 @@
+use Rattle.std.proofs.Common.{◌≡◌, ◌<◌, ℕ, false, get_or, option_map}
+use Rattle.std.specs.Str.{chars}
+use Rattle.cal_schema.specs.declared.table.TableDef.{TableDef}
+use Rattle.cal_schema.specs.Lookup.{is_named}
+use Rattle.cal_schema.proofs.schema.Schema.table.Given as goal
+
+abbrev pub invariant-loop-at : goal.invariant-loop-at
+invariant-loop-at l = (k : ℕ) (d : TableDef) → k < l.at → is_named l.self (option_map (λ s. chars s.now) l.schema) (chars l.name) (get_or l.self.tables k d) ≡ false

@@ -1,0 +1,4 @@
+pub mod Column
+pub mod Fits
+pub mod Lookup
+pub mod Valid

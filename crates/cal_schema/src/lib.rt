@@ -1,0 +1,20 @@
+//! Schemas: tables with their columns and keys, the rows of a database, and the keys of tiles.
+#![tactic(auto)]
+
+mod column;
+mod database;
+mod refusal;
+mod schema;
+mod table;
+mod tile;
+
+pub use cal_value::Agg;
+pub use column::{ColumnDef, ColumnFault, NAME_LIMIT};
+pub use database::Db;
+pub use refusal::Refusal;
+pub use schema::Schema;
+pub use table::{AdapterKind, TableDef};
+pub use tile::{Measure, TileInfo, TileKey};
+
+#[cfg(test)]
+mod tests;

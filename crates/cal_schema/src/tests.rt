@@ -1,0 +1,199 @@
+ghost use Rattle.std.specs.Prelude.{◌≡◌, IfOk, length};
+
+use crate::{
+    AdapterKind, ColumnDef, ColumnFault, Db, Measure, Schema, TableDef, TileInfo, TileKey,
+};
+use cal_value::{Agg, Duplicate, Interval, Kind, List, NoMemory, SqlText, SqlType, Value};
+use std::alloc::Global;
+use std::test::Fail;
+
+fn has_type(
+    alloc: Global,
+    text: &str,
+    name: &str,
+    kind: Kind,
+    lo: i128,
+    hi: i128,
+) -> Result<bool, Fail> {
+    let column = ColumnDef::parse(alloc, text)?;
+    let wanted = SqlText::of(alloc, name)?;
+    Ok(
+        column.name == wanted
+            && column.kind
+                == SqlType {
+                    kind,
+                    nullable: true,
+                    interval: Interval::Range { lo, hi },
+                },
+    )
+}
+
+#[test]
+fn a_column_is_a_name_and_a_word(rt: HostRuntime) -> Result<(), Fail> {
+    let alloc = rt.alloc();
+    assert!(rt; has_type(alloc, "A", "A", Kind::Text, 0, 0)?);
+    assert!(rt; has_type(alloc, "A:string", "A", Kind::Text, 0, 0)?);
+    assert!(rt; has_type(alloc, "a b:boolean", "a b", Kind::Boolean, 0, 0)?);
+    assert!(rt; has_type(alloc, "A:short", "A", Kind::Integer, -32768, 32767)?);
+    assert!(rt;
+        has_type(
+            alloc,
+            "x:int:int",
+            "x:int",
+            Kind::Integer,
+            -2147483648,
+            2147483647
+        )?
+    );
+    assert!(rt;
+        has_type(
+            alloc,
+            "ß:long",
+            "ß",
+            Kind::Integer,
+            i128::from(i64::MIN),
+            i128::from(i64::MAX)
+        )?
+    );
+    for text in ["", ":int", "A:", "A:byte", "A:INT", "A:int ", "A: int"] {
+        assert!(rt; ColumnDef::parse(alloc, text).err() == Some(ColumnFault::BadColumn));
+    }
+    Ok(())
+}
+
+fn repeated(alloc: Global, count: usize, end: &str) -> Result<String, NoMemory> {
+    let mut text = String::new(alloc);
+    for _ in 0..count {
+        text.push('ß')?;
+    }
+    text.push_str(end)?;
+    Ok(text)
+}
+
+#[test]
+fn a_name_has_128_characters(rt: HostRuntime) -> Result<(), Fail> {
+    let alloc = rt.alloc();
+    let most = ColumnDef::parse(alloc, repeated(alloc, 128, ":int")?.as_str())?;
+    assert_eq!(rt; most.name.as_slice().len(), 128);
+    for end in ["", ":int", ":byte"] {
+        let text = repeated(alloc, 129, end)?;
+        assert!(rt;
+            ColumnDef::parse(alloc, text.as_str()).err()
+                == Some(ColumnFault::NameTooLong { limit: 128 })
+        );
+    }
+    Ok(())
+}
+
+fn one_table(alloc: Global, schema: &str, name: &str) -> Result<TableDef, Fail> {
+    let schema = SqlText::of(alloc, schema)?;
+    let name = SqlText::of(alloc, name)?;
+    let file = SqlText::of(alloc, "rows.csv")?;
+    let column = ColumnDef::parse(alloc, "K:int")?;
+    let mut columns = List::new(alloc);
+    columns.push(column)?;
+    let mut primary_key = List::new(alloc);
+    primary_key.push(0u32)?;
+    Ok(TableDef {
+        schema,
+        name,
+        columns,
+        adapter: AdapterKind::Csv,
+        file,
+        max_rows: 10,
+        primary_key,
+    })
+}
+
+fn three_tables(alloc: Global) -> Result<List<TableDef>, Fail>
+    ensures { IfOk result (λ tables. length tables ≡ 3) }
+{
+    let mut tables = List::new(alloc);
+    let first = one_table(alloc, "S", "T")?;
+    tables.push(first)?;
+    let second = one_table(alloc, "S", "U")?;
+    tables.push(second)?;
+    let third = one_table(alloc, "R", "T")?;
+    tables.push(third)?;
+    Ok(tables)
+}
+
+#[test]
+fn tables_are_found_by_their_names(rt: HostRuntime) -> Result<(), Fail> {
+    let alloc = rt.alloc();
+    let tables = three_tables(alloc)?;
+    let mut schema = Schema {
+        default_schema: None,
+        tables,
+    };
+    assert_eq!(rt; schema.table(None, "T"), None);
+    assert_eq!(rt; schema.table(Some("S"), "U"), Some(1));
+    assert_eq!(rt; schema.table(Some("R"), "T"), Some(2));
+    assert_eq!(rt; schema.table(Some("R"), "U"), None);
+    assert_eq!(rt; schema.table(Some("S"), "t"), None);
+    assert_eq!(rt; schema.table(Some("S"), "TT"), None);
+    assert_eq!(rt; schema.table(Some("S"), ""), None);
+    schema.default_schema = Some(SqlText::of(alloc, "R")?);
+    assert_eq!(rt; schema.table(None, "T"), Some(2));
+    assert_eq!(rt; schema.table(None, "U"), None);
+    assert_eq!(rt; schema.table(Some("S"), "T"), Some(0));
+    Ok(())
+}
+
+#[test]
+fn copies_are_equal(rt: HostRuntime) -> Result<(), Fail> {
+    let alloc = rt.alloc();
+    let table = one_table(alloc, "S", "T")?.copy(alloc)?;
+    assert!(rt; table.name == SqlText::of(alloc, "T")?);
+    assert_eq!(rt; table.primary_key.as_slice(), [0u32].as_slice());
+    assert_eq!(rt; table.columns.len(), 1);
+    let key = TileKey {
+        lattice: 1,
+        dims: 5,
+        measures: [
+            Some(Measure {
+                agg: Agg::Count,
+                column: None,
+            }),
+            None,
+            None,
+            None,
+            None,
+            None,
+            None,
+            None,
+        ],
+    };
+    let mut versions = List::new(alloc);
+    versions.push(7u64)?;
+    let info = TileInfo {
+        instance: 3,
+        key: key.copy(alloc)?,
+        rows: 2,
+        versions,
+    };
+    let copy = info.copy(alloc)?;
+    assert!(rt;
+        copy.key == key && copy.versions == info.versions && copy.instance == 3 && copy.rows == 2
+    );
+    Ok(())
+}
+
+#[test]
+fn a_database_is_copied(rt: HostRuntime) -> Result<(), Fail> {
+    let alloc = rt.alloc();
+    let mut row = List::new(alloc);
+    row.push(Value::Int(5))?;
+    let mut rows = List::new(alloc);
+    rows.push(row)?;
+    let mut tables = List::new(alloc);
+    tables.push(rows)?;
+    let copy = Db { tables }.copy(alloc)?;
+    assert_eq!(rt; copy.tables.len(), 1);
+    let schema = Schema {
+        default_schema: Some(SqlText::of(alloc, "S")?),
+        tables: three_tables(alloc)?,
+    };
+    assert_eq!(rt; schema.copy(alloc)?.table(None, "U"), Some(1));
+    Ok(())
+}

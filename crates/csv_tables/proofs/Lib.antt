@@ -1,0 +1,5 @@
+pub mod FieldLemmas
+pub mod HeaderLemmas
+pub mod LeftLemmas
+pub mod NumberLemmas
+pub mod RowsLemmas

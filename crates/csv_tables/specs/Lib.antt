@@ -1,0 +1,4 @@
+pub mod Field
+pub mod Header
+pub mod Left
+pub mod Table
