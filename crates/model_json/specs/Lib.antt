@@ -1,0 +1,7 @@
+pub mod Kinds
+pub mod ModelOf
+pub mod Reading
+pub mod Rows
+pub mod Schemas
+pub mod Tables
+pub use Rattle.cal_schema.specs.Column

@@ -1,0 +1,162 @@
+-- The columns, rows and keys of a table.
+use Rattle.std.specs.Prelude.{ℕ, suc, ℤ, ◌+◌, ◌==◌, ◌&&◌, Bool, true, false, not, int_le, List, [], ◌∷◌, ◌++◌, length, map, nat_lt, if◌then◌else◌, slice_get, position, codes, Option, Some, None, Result, Ok, Err, ⊤}
+use Rattle.std.specs.List.{list_any}
+use Rattle.std.specs.Str.{chars}
+use Rattle.std.specs.Fmt.{decimal}
+use Rattle.serde_json.specs.Data.{Num, Data, null, boolean, number, string, array, object, Items}
+use Rattle.serde_json.specs.Find.{as_i64}
+use Rattle.cal_value.specs.declared.interval.Interval.{Interval}
+use Rattle.cal_value.specs.declared.interval.Interval.TheVariants.{Never, Range}
+use Rattle.cal_value.specs.declared.kind.Kind.{Kind}
+use Rattle.cal_value.specs.declared.kind.Kind.TheVariants.{Boolean, Integer, Text as TextKind}
+use Rattle.cal_value.specs.declared.kind.SqlType.{SqlType}
+use Rattle.cal_value.specs.declared.value.Value.{Value}
+use Rattle.cal_value.specs.declared.value.Value.TheVariants.{Null, Bool as BoolValue, Int, Text}
+use Rattle.cal_value.specs.Equal.{row_eq}
+use Rattle.cal_value.specs.Order.{column_of as value_in}
+use Rattle.cal_schema.specs.declared.column.ColumnDef.{ColumnDef}
+use Rattle.cal_schema.specs.declared.column.ColumnFault.{ColumnFault}
+use Rattle.cal_schema.specs.declared.column.ColumnFault.TheVariants.{NameTooLong, BadColumn, NoMemory as NoMemoryFor}
+use Rattle.cal_schema.specs.Column.{column_of}
+use Rattle.cal_schema.specs.Lookup.{is_same_name}
+use Rattle.model_json.specs.declared.fault.ModelCause.TheVariants.{WrongKind, BadValue, Repeated, TooMany, NoSuchName, TextTooLong, NullValue, KeyTaken}
+use Rattle.model_json.specs.declared.fault.ModelFault.{ModelFault}
+use Rattle.model_json.specs.declared.fault.ModelFault.TheVariants.{NoMemory}
+use Rattle.model_json.specs.Reading.{◌>>=◌, bad, each, optional, under}
+use Rattle.model_json.specs.Kinds.{a_list, text, short, count}
+
+-- ---- columns
+
+abbrev pub is_column_named : List ℕ → ColumnDef → Bool
+is_column_named name c = is_same_name c.name name
+
+abbrev pub parsed : Result ColumnDef ColumnFault → Result ColumnDef ModelFault
+parsed (Ok c) = Ok c
+parsed (Err (NameTooLong limit)) = bad TextTooLong
+parsed (Err BadColumn) = bad BadValue
+parsed (Err NoMemoryFor) = Err NoMemory
+
+abbrev pub differing : List ColumnDef → ColumnDef → Result ColumnDef ModelFault
+differing before c = if list_any (is_column_named c.name) before then bad Repeated else Ok c
+
+-- a text NAME:type, whose name differs from those before it
+abbrev pub column : List ColumnDef → Data → Result ColumnDef ModelFault
+column before d = (text d >>= λ s. parsed (column_of (chars s))) >>= differing before
+
+-- 1 to 32 columns
+abbrev pub column_list : Items → Result (List ColumnDef) ModelFault
+column_list ds = if count ds == 0 then bad BadValue else if nat_lt 32 (count ds) then bad TooMany else each column ds
+
+abbrev pub columns : Data → Result (List ColumnDef) ModelFault
+columns d = a_list d >>= column_list
+
+-- ---- rows
+
+abbrev pub is_within : Interval → ℤ → Bool
+is_within Never z = false
+is_within (Range lo hi) z = int_le lo z && int_le z hi
+
+abbrev pub whole : Interval → Option ℤ → Result Value ModelFault
+whole range None = bad BadValue
+whole range (Some z) = if is_within range z then Ok (Int z) else bad BadValue
+
+abbrev pub short_cell : List ℕ → Result Value ModelFault
+short_cell s = short 4000 s >>= λ t. Ok (Text (chars t))
+
+-- a value of a column of this kind, where whole numbers are in the range
+abbrev pub cell : Kind → Interval → Data → Result Value ModelFault
+cell kind range null = Ok Null
+cell Boolean range (boolean b) = Ok (BoolValue b)
+cell Integer range (number n) = whole range (as_i64 n)
+cell TextKind range (string s) = short_cell s
+cell kind range d = bad WrongKind
+
+abbrev pub cell_in : Option ColumnDef → Data → Result Value ModelFault
+cell_in None d = bad BadValue
+cell_in (Some c) d = cell c.kind.kind c.kind.interval d
+
+-- the value in the column that comes after those before it
+abbrev pub next_cell : List ColumnDef → List Value → Data → Result Value ModelFault
+next_cell cs before d = cell_in (slice_get cs (length before)) d
+
+abbrev pub cells : List ColumnDef → Items → Result (List Value) ModelFault
+cells cs ds = if count ds == length cs then each (next_cell cs) ds else bad BadValue
+
+-- as many values as columns
+abbrev pub row_of : List ColumnDef → Data → Result (List Value) ModelFault
+row_of cs d = a_list d >>= cells cs
+
+abbrev pub row : List ColumnDef → List (List Value) → Data → Result (List Value) ModelFault
+row cs before d = row_of cs d
+
+abbrev pub row_list : List ColumnDef → ℕ → Items → Result (List (List Value)) ModelFault
+row_list cs most ds = if nat_lt most (count ds) then bad TooMany else each (row cs) ds
+
+-- at most so many rows
+abbrev pub rows : List ColumnDef → ℕ → Data → Result (List (List Value)) ModelFault
+rows cs most d = a_list d >>= row_list cs most
+
+-- ---- the primary key
+
+abbrev pub place_of : List ColumnDef → List ℕ → Option ℕ
+place_of cs name = position (is_column_named name) cs
+
+abbrev pub is_place : ℕ → ℕ → Bool
+is_place k other = other == k
+
+abbrev pub fresh_place : List ℕ → Option ℕ → Result ℕ ModelFault
+fresh_place before None = bad NoSuchName
+fresh_place before (Some k) = if list_any (is_place k) before then bad Repeated else Ok k
+
+-- the place of a column of this name, which differs from those before it
+abbrev pub key_column : List ColumnDef → List ℕ → Data → Result ℕ ModelFault
+key_column cs before d = text d >>= λ s. fresh_place before (place_of cs (chars s))
+
+-- different names of columns
+abbrev pub key : List ColumnDef → Data → Result (List ℕ) ModelFault
+key cs d = a_list d >>= each (key_column cs)
+
+-- the key of a table's operand, which may be absent
+abbrev pub primary_key : List ColumnDef → Data → Result (List ℕ) ModelFault
+primary_key cs operand = optional (codes "primaryKey") [] (key cs) operand
+
+-- NULL may stand in a column unless it is one of the key
+abbrev pub keyed_column : List ℕ → ℕ → ColumnDef → ColumnDef
+keyed_column ks n c = record { name = c.name; kind = record { kind = c.kind.kind; nullable = not (list_any (is_place n) ks); interval = c.kind.interval } }
+
+abbrev pub keyed_from : List ℕ → ℕ → List ColumnDef → List ColumnDef
+keyed_from ks n [] = []
+keyed_from ks n (c ∷ cs) = keyed_column ks n c ∷ keyed_from ks (n + 1) cs
+
+-- the columns, where the key is this one
+abbrev pub keyed : List ℕ → List ColumnDef → List ColumnDef
+keyed ks cs = keyed_from ks 0 cs
+
+-- ---- the keys of rows
+
+abbrev pub is_null : Value → Bool
+is_null Null = true
+is_null (BoolValue b) = false
+is_null (Int n) = false
+is_null (Text s) = false
+
+-- a row's values in the columns of the key, in the order of the key
+abbrev pub key_values : List ℕ → List Value → List Value
+key_values ks r = map (value_in r) ks
+
+-- the keys with that of one more row
+abbrev pub with_key : List (List Value) → List Value → Result (List (List Value)) ModelFault
+with_key before k = if list_any is_null k then bad NullValue else if list_any (row_eq k) before then bad KeyTaken else Ok (before ++ k ∷ [])
+
+abbrev pub row_key_added : List ℕ → ℕ → List (List Value) → List Value → Result (List (List Value)) ModelFault
+row_key_added ks n before r = under (decimal n) (with_key before (key_values ks r))
+
+-- the rows in order, each judged by the keys of those before it
+abbrev pub keys_from : List ℕ → ℕ → List (List Value) → List (List Value) → Result ⊤ ModelFault
+keys_from ks n before [] = Ok tt
+keys_from ks n before (r ∷ rs) = row_key_added ks n before r >>= λ keys. keys_from ks (n + 1) keys rs
+
+-- no row has NULL in its key, and none the key of an earlier row, where there is a key
+abbrev pub keys_apart : List ℕ → List (List Value) → Result ⊤ ModelFault
+keys_apart [] rs = Ok tt
+keys_apart (k ∷ ks) rs = keys_from (k ∷ ks) 0 [] rs

@@ -1,0 +1,17 @@
+//! Models: the JSON document that names the schemas and tables of a database.
+#![tactic(auto)]
+
+mod columns;
+mod draft;
+mod fault;
+mod member;
+mod model;
+mod rows;
+mod schemas;
+mod tables;
+
+pub use fault::{ModelCause, ModelFault};
+pub use model::{Model, ModelDoc, files, read_model, resolve};
+
+#[cfg(test)]
+mod tests;
