@@ -1,0 +1,53 @@
+#!/usr/bin/env python3
+"""Times csv_rows over a table's file of up to 8 MiB beside sqlite3, which imports the same file.
+
+usage: bench/csv_file.py [MIB ..]     (default: 1 2 4 8)
+
+It takes the proved program, crates/csv_rows/out/csv_rows, that `rt ci` or `rt run` leaves, and the command sqlite3. Each time is
+the least of three runs in seconds, the memory is the greatest resident size of a run in MiB.
+"""
+import os
+import sys
+import tempfile
+
+sys.path.insert(0, os.path.dirname(os.path.abspath(__file__)))
+from inline_rows import ROOT, timed  # noqa: E402
+
+PROGRAM = os.path.join(ROOT, "crates", "csv_rows", "out", "csv_rows")
+
+
+def write_table(path, limit):
+    """Rows of a number, a quoted text and a number, as many as fit; answers how many."""
+    with open(path, "w") as out:
+        out.write("ID:long,NAME:string,UNITS:int\n")
+        size, count, number = out.tell(), 0, 1
+        while True:
+            number = (1103515245 * number + 12345) % 2**31
+            line = f'{count},"name, {number // 2**16}",{number // 2**11}\n'
+            size += len(line)
+            if size > limit:
+                return count
+            out.write(line)
+            count += 1
+
+
+def main():
+    if not os.path.exists(PROGRAM):
+        sys.exit("crates/csv_rows/out/csv_rows is missing: run `rt ci` first")
+    sizes = [int(word) for word in sys.argv[1:]] or [1, 2, 4, 8]
+    print("MiB  rows     ours s  sqlite3 s  ratio  ours MiB")
+    for size in sizes:
+        with tempfile.TemporaryDirectory() as folder:
+            path = os.path.join(folder, "table.csv")
+            count = write_table(path, size * 2**20)
+            ours, memory, answer = timed([PROGRAM, path])
+            theirs, _, other = timed(
+                ["sqlite3", ":memory:", "CREATE TABLE T(ID INTEGER, NAME TEXT, UNITS INTEGER);", ".mode csv",
+                 f".import --skip 1 {path} T", "SELECT count(*) FROM T;"])
+            if answer.split()[-1] != other.split()[-1] or int(other) != count:
+                sys.exit(f"the numbers of rows of {size} MiB differ")
+            print(f"{size:<4} {count:<8} {ours:6.3f}  {theirs:9.3f}  {ours / theirs:5.2f}  {memory:8.1f}")
+
+
+if __name__ == "__main__":
+    main()
