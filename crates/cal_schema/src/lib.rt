@@ -11,7 +11,7 @@ mod tile;
 pub use cal_value::Agg;
 pub use column::{ColumnDef, ColumnFault, NAME_LIMIT};
 pub use database::Db;
-pub use refusal::Refusal;
+pub use refusal::{Refusal, WrittenName};
 pub use schema::Schema;
 pub use table::{AdapterKind, TableDef};
 pub use tile::{Measure, TileInfo, TileKey};

@@ -1,0 +1,18 @@
+//! The meaning of a SELECT over its syntax tree: what its names stand for, the value and the type of an expression, the rows
+//! that it means, the names of its columns, and why it is refused. All of it is definitions, in `specs/`; here stand laws of them.
+#![tactic(auto)]
+
+ghost use Rattle.std.specs.Prelude.{◌≡◌, [], ◌∷◌, map, filter};
+ghost use Rattle.cal_schema.specs.declared.database.Db.{Db};
+ghost use Rattle.cal_schema.specs.declared.schema.Schema.{Schema};
+ghost use Rattle.sql_text.specs.declared.select.FromEntry.{FromEntry};
+ghost use Rattle.sql_text.specs.declared.select.Select.{Select};
+ghost use Rattle.sql_meaning.specs.Direct.{direct, rows_of, bound, passes, item_values};
+
+/// Over one entry of FROM a SELECT means the items of each row of the table of which WHERE is TRUE, in the table's order.
+#[tactic(auto, using(crate::proofs::OneEntry::direct_of_one))]
+pub fn one_entry_is_one_walk()
+    ensures { (select : Select) (schema : Schema) (db : Db) (entry : FromEntry) → select.from ≡ entry ∷ [] →
+        direct select schema db ≡ map (λ row. item_values select.items (bound schema entry row ∷ []))
+            (filter (λ row. passes select.filter (bound schema entry row ∷ [])) (rows_of schema db entry)) }
+{}
