@@ -1,0 +1,10 @@
+//! The words of a command line.
+#![tactic(auto)]
+
+mod command;
+mod reading;
+
+pub use reading::{Asked, read_words};
+
+#[cfg(test)]
+mod tests;
