@@ -16,7 +16,8 @@ fn is_same_kind(a: Kind, b: Kind) -> bool
     )
 }
 
-fn literal_type(value: &Value) -> Option<SqlType>
+/// The type of a literal: none of NULL and of a number that is none of SQL. Takes no memory.
+pub fn literal_type(value: &Value) -> Option<SqlType>
     ensures { result ≡ spec.literal_type value.now }
 {
     match value {
@@ -27,7 +28,8 @@ fn literal_type(value: &Value) -> Option<SqlType>
     }
 }
 
-fn column_type(t: SqlType) -> Option<SqlType>
+/// The type of a column of this type: none where its numbers are none of SQL. Takes no memory.
+pub fn column_type(t: SqlType) -> Option<SqlType>
     ensures { result ≡ spec.column_type t }
 {
     if is_same_kind(t.kind, Kind::Integer) {
@@ -37,8 +39,9 @@ fn column_type(t: SqlType) -> Option<SqlType>
     }
 }
 
+/// The type of the negation of what has this type, where it has one. Takes no memory.
 #[tactic(auto, using(crate::proofs::TypingLemmas::typing_rules))]
-fn negation_type(t: SqlType) -> Option<SqlType>
+pub fn negation_type(t: SqlType) -> Option<SqlType>
     ensures { result ≡ spec.negation_type t }
 {
     if is_same_kind(t.kind, Kind::Integer) {
@@ -48,7 +51,8 @@ fn negation_type(t: SqlType) -> Option<SqlType>
     }
 }
 
-fn not_type(t: SqlType) -> Option<SqlType>
+/// The type of NOT of what has this type, where it has one. Takes no memory.
+pub fn not_type(t: SqlType) -> Option<SqlType>
     ensures { result ≡ spec.not_type t }
 {
     if is_same_kind(t.kind, Kind::Boolean) {
@@ -125,7 +129,8 @@ fn quotient_type(s: SqlType, t: SqlType) -> Option<SqlType>
     }
 }
 
-fn op_type(op: Op, s: SqlType, t: SqlType) -> Option<SqlType>
+/// The type of the operator over operands of these types, where it has one. Takes no memory.
+pub fn op_type(op: Op, s: SqlType, t: SqlType) -> Option<SqlType>
     ensures { result ≡ spec.op_type op s t }
 {
     match op {

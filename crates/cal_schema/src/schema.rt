@@ -72,4 +72,30 @@ impl Schema {
         }
         None
     }
+
+    fn is_of(&self, schema: &Option<SqlText>, table: &TableDef) -> bool
+        ensures { result ≡ is_in self.now schema.now table.now }
+    {
+        match schema {
+            Some(written) => table.schema == *written,
+            None => match &self.default_schema {
+                Some(default) => table.schema == *default,
+                None => false,
+            },
+        }
+    }
+
+    /// The same of names that are texts.
+    pub fn table_of(&self, schema: &Option<SqlText>, name: &SqlText) -> Option<u32>
+        requires { length self.now.tables ≤ 64 }
+        ensures found { result ≡ table_named self.now schema.now name.now }
+        ensures within { IfSome result (λ at. at < length self.now.tables) }
+    {
+        for (at, table) in self.tables.as_slice().iter().enumerate() {
+            if table.name == *name && self.is_of(schema, table) {
+                return Some(at as u32);
+            }
+        }
+        None
+    }
 }

@@ -7,6 +7,8 @@ use Rattle.cal_schema.specs.declared.refusal.Refusal.TheVariants.{UnknownTable, 
 use Rattle.cal_schema.specs.declared.refusal.WrittenName.{WrittenName}
 use Rattle.cal_schema.specs.declared.schema.Schema.{Schema}
 use Rattle.sql_text.specs.declared.select.FromEntry.{FromEntry}
+use Rattle.sql_text.specs.declared.select.How.{How}
+use Rattle.sql_text.specs.declared.select.How.TheVariants.{First, Cross, Inner, Left}
 use Rattle.sql_text.specs.declared.select.Items.{Items}
 use Rattle.sql_text.specs.declared.select.Items.TheVariants.{Star, Listed}
 use Rattle.sql_text.specs.declared.select.Select.{Select}
@@ -15,9 +17,10 @@ use Rattle.sql_text.specs.declared.tree.ColumnName.{ColumnName}
 use Rattle.sql_text.specs.declared.tree.Tree.{Tree}
 use Rattle.sql_text.specs.declared.tree.Tree.TheFolds.{fold-Tree}
 use Rattle.sql_text.specs.declared.tree.Tree.TheOpen.{Tree-F}
+use Rattle.sql_meaning.specs.declared.misfit.Misfit.{Misfit}
 use Rattle.sql_meaning.specs.Scope.{Header, number_of, scope_of, place_of}
 use Rattle.sql_meaning.specs.Kinds.{clashes, condition_clashes}
-use Rattle.sql_meaning.specs.Sizes.{Misfit, misfits}
+use Rattle.sql_meaning.specs.Sizes.{misfits}
 
 -- ---- the parts of a SELECT, in the order of their tokens
 
@@ -62,10 +65,22 @@ has_aggregate tree = fold-Tree Bool aggregate_step tree
 abbrev pub is_empty : {A : Type 0} → List A → Bool
 is_empty xs = length xs == 0
 
+-- what no entry stands before is joined with nothing
+abbrev pub is_first : How → Bool
+is_first First = true
+is_first Cross = false
+is_first (Inner cond) = false
+is_first (Left cond) = false
+
+-- there is one entry, which is the first
+abbrev pub is_single : List FromEntry → Bool
+is_single [] = false
+is_single (entry ∷ entries) = is_first entry.how && is_empty entries
+
 -- one entry of FROM, no aggregate, and neither DISTINCT, GROUP BY, HAVING nor ORDER BY
 abbrev pub is_plain : Select → Bool
 is_plain select =
-    (not select.distinct && length select.from == 1)
+    (not select.distinct && is_single select.from)
     && (is_empty select.groups && is_none select.having)
     && (is_empty select.order && not (list_any has_aggregate (trees_of select)))
 

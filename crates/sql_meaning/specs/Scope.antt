@@ -67,3 +67,7 @@ types_in hs = flat_map (λ h. map (λ c. c.kind) h.columns) hs
 -- the type of the column
 abbrev pub type_in : List Header → ColumnName → Option SqlType
 type_in hs c = option_and_then (slice_get (types_in hs)) (place_of hs c)
+
+-- the entries, where there is one that hides no column
+abbrev pub single : List ℕ → List ColumnDef → List Header
+single alias columns = record { alias = alias; columns = columns; hidden = [] } ∷ []

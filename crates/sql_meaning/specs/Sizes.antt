@@ -1,5 +1,5 @@
 -- The types of expressions, and those of whose parts all fit and that may leave the range of numbers themselves.
-use Rattle.std.specs.Prelude.{ℕ, ℤ, ◌+ℤ◌, ◌-ℤ◌, ◌*ℤ◌, false, List, [], ◌∷◌, ◌++◌, Option, Some, None, option_map, if◌then◌else◌}
+use Rattle.std.specs.Prelude.{ℕ, ◌+ℤ◌, ◌-ℤ◌, ◌*ℤ◌, false, List, [], ◌∷◌, ◌++◌, Option, Some, None, option_map, if◌then◌else◌}
 use Rattle.std.specs.Int.RustNames.{int_div}
 use Rattle.std.specs.Option.{option_and_then}
 use Rattle.cal_value.specs.declared.interval.Interval.{Interval}
@@ -15,13 +15,8 @@ use Rattle.cal_expr.specs.Typing.{column_type, literal_type, negation_type, op_t
 use Rattle.sql_text.specs.declared.tree.Tree.{Tree}
 use Rattle.sql_text.specs.declared.tree.Tree.TheFolds.{fold-Tree}
 use Rattle.sql_text.specs.declared.tree.Tree.TheOpen.{Tree-F}
+use Rattle.sql_meaning.specs.declared.misfit.Misfit.{Misfit}
 use Rattle.sql_meaning.specs.Scope.{Header, type_in}
-
--- the place of an expression, and the ends of an interval, cut at 10^38
-pub record Misfit : Type 0 where
-  pub place : ℕ
-  pub lo : ℤ
-  pub hi : ℤ
 
 -- the type of an expression, where it has one, and what in it doesn't fit
 pub record Sized : Type 0 where

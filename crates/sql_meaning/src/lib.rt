@@ -2,6 +2,12 @@
 //! that it means, the names of its columns, and why it is refused. All of it is definitions, in `specs/`; here stand laws of them.
 #![tactic(auto)]
 
+mod columns;
+mod misfit;
+
+pub use columns::column_place;
+pub use misfit::Misfit;
+
 ghost use Rattle.std.specs.Prelude.{◌≡◌, [], ◌∷◌, map, filter};
 ghost use Rattle.cal_schema.specs.declared.database.Db.{Db};
 ghost use Rattle.cal_schema.specs.declared.schema.Schema.{Schema};
