@@ -1,0 +1,5 @@
+pub mod Places
+pub mod Rolls
+pub mod Typed
+pub mod Types
+pub mod Values

@@ -1,0 +1,7 @@
+//! Trees of SQL as expressions over numbered columns.
+#![tactic(auto)]
+
+pub mod laws;
+mod numbering;
+
+pub use numbering::expression;
