@@ -8,10 +8,12 @@ mod member;
 mod model;
 mod rows;
 mod schemas;
+mod source;
 mod tables;
 
 pub use fault::{ModelCause, ModelFault};
 pub use model::{Model, ModelDoc, files, read_model, resolve};
+pub use source::{TableSource, sources};
 
 #[cfg(test)]
 mod tests;
