@@ -1,5 +1,5 @@
 -- The types of columns, and how a text names a column.
-use Rattle.std.specs.Prelude.{◌≡◌, ℕ, ℤ, pos, neg_ℤ, ◌-◌, ◌==◌, nat_lt, Bool, true, not, List, length, take, drop, codes, Option, Some, None, Result, Ok, Err, if◌then◌else◌, ⊤}
+use Rattle.std.specs.Prelude.{◌≡◌, ℕ, pos, neg_ℤ, ◌-◌, ◌==◌, nat_lt, Bool, true, not, List, length, take, drop, codes, Option, Some, None, Result, Ok, Err, if◌then◌else◌, ⊤}
 use Rattle.std.specs.List.{suffix_len}
 use Rattle.std.specs.Cmp.Lexicographic.{pointwise}
 use Rattle.cal_value.specs.declared.interval.Interval.TheVariants.{Range}

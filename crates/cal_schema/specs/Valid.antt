@@ -10,6 +10,16 @@ use Rattle.cal_schema.specs.Column.{type_named}
 abbrev pub IsColumnType : SqlType → Type 0
 IsColumnType t = (word : List ℕ) × (type_named word ≡ Some (record t { nullable = true }))
 
+-- the columns that a header names: NULL may stand in each of them
+pub record IsHeader (columns : List ColumnDef) : Type 0 where
+  pub some_columns : 0 < length columns
+  pub few_columns : length columns ≤ 32
+  pub columns_named : All (λ c. 0 < length c.name) columns
+  pub columns_short : All (λ c. length c.name ≤ 128) columns
+  pub columns_apart : AllPairs (λ a b. a.name ≢ b.name) columns
+  pub typed : All (λ c. IsColumnType c.kind) columns
+  pub nullable : All (λ c. c.kind.nullable ≡ true) columns
+
 -- NULL may stand exactly in the columns outside the primary key
 abbrev pub HasNullsOutsideKey : TableDef → Type 0
 HasNullsOutsideKey table = (k : ℕ) (c : ColumnDef) → slice_get table.columns k ≡ Some c → (c.kind.nullable ≡ true) ↔ (¬ Contains table.primary_key k)

@@ -3,3 +3,4 @@ pub mod HeaderLemmas
 pub mod LeftLemmas
 pub mod NumberLemmas
 pub mod RowsLemmas
+pub mod FilledLemmas

@@ -7,8 +7,6 @@ use Rattle.cal_value.specs.Equal.{row_eq}
 use Rattle.cal_value.specs.Types.{same_kind}
 use Rattle.cal_value.specs.declared.interval.Interval.{Interval}
 use Rattle.cal_value.specs.declared.interval.Interval.TheVariants.{Never, Range}
-use Rattle.cal_value.specs.declared.kind.Kind.{Kind}
-use Rattle.cal_value.specs.declared.kind.Kind.TheVariants.{Boolean, Integer, Text as TextKind}
 use Rattle.cal_value.specs.declared.value.Value.{Value}
 use Rattle.cal_schema.specs.declared.column.ColumnDef.{ColumnDef}
 use Rattle.cal_schema.specs.declared.table.TableDef.{TableDef}

@@ -1,6 +1,7 @@
 ghost use Rattle.std.specs.Prelude.{◌≡◌, ◌≤◌, [], length, map, IfOk};
 ghost use Rattle.std.specs.List.{list_any};
 ghost use Rattle.cal_schema.specs.Lookup.{is_same_name};
+ghost use Rattle.cal_schema.specs.Valid.{IsHeader};
 ghost use Rattle.csv.specs.Records.{fields_of};
 ghost use Rattle.csv_tables.specs.Header as spec;
 ghost use Rattle.csv_tables.specs.declared.fault.CsvCause.TheVariants.{NoHeader};
@@ -20,6 +21,7 @@ const COLUMN_LIMIT: usize = 32;
 /// The columns that the first record names. NULL may stand in each of them.
 pub fn header(alloc: Global, bytes: &[u8]) -> Result<List<ColumnDef>, CsvFault>
     ensures answer { spec.Answers (spec.header_of bytes.now) result }
+    ensures header { IfOk result IsHeader }
     ensures few { IfOk result (λ columns. length columns ≤ 32) }
 {
     let mut reader = open(alloc, bytes);

@@ -3,7 +3,7 @@ ghost use Rattle.std.specs.Ordering.{int_eq};
 ghost use Rattle.csv.specs.Records.{fields_of};
 ghost use Rattle.cal_value.specs.Order.{column_of};
 ghost use Rattle.cal_value.specs.Types.{same_kind};
-ghost use Rattle.cal_schema.specs.Fits.{key_of};
+ghost use Rattle.cal_schema.specs.Fits.{key_of, IsFilledBy};
 ghost use Rattle.csv_tables.specs.Header.{Answers, told, column_in, header_faults};
 ghost use Rattle.csv_tables.specs.Left.{IsPlain, left_of};
 ghost use Rattle.csv_tables.specs.Table as spec;
@@ -22,7 +22,8 @@ use std::alloc::Global;
 pub fn decode(alloc: Global, bytes: &[u8], table: &TableDef) -> Result<List<Row>, CsvFault>
     requires few_columns { length table.now.columns ≤ 32 }
     requires few_rows { table.now.max_rows ≤ 2 ^ 20 }
-    ensures { Answers (spec.table_of bytes.now table.now) result }
+    ensures rows { Answers (spec.table_of bytes.now table.now) result }
+    ensures filled { IfOk result (IsFilledBy table.now) }
 {
     let mut reader = open(alloc, bytes);
     let mut record = ByteRecord::new(alloc);

@@ -2,11 +2,15 @@ use Rattle.std.proofs.Common.{◌∙◌, sym}
 use Rattle.csv.specs.Records.{fields_of}
 use Rattle.csv_tables.specs.Header.{all_records}
 use Rattle.csv_tables.specs.Left.{left_of}
+use Rattle.csv_tables.proofs.FilledLemmas.{file-filled}
 use Rattle.csv_tables.proofs.RowsLemmas.{found-next, with_header}
 use Rattle.csv_tables.proofs.table.decode.Goals as goal
 
-pub returns : goal.returns
-returns c =
+pub returns-clause-rows : goal.returns-clause-rows
+returns-clause-rows c =
     let fields = fields_of c.next.new.record in
     let next = found-next (left_of c.open-reader.result) c.in-Ok-true.field-0 fields (left_of c.next.new.reader) c.in-Ok-true.field-0-test c.in-Ok-true.ensures.next in
     with_header {X = Unit {0}} tt tt c.args.table.now (all_records c.args.bytes.now) fields (left_of c.next.new.reader) c.rows_in.result (sym c.open-reader.ensures.all ∙ next) c.in-Ok.ensures c.rows_in.ensures
+
+pub returns-clause-filled : goal.returns-clause-filled
+returns-clause-filled c = file-filled c.args.bytes.now c.args.table.now c.rows_in.result (returns-clause-rows c)
