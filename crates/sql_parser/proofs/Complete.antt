@@ -1,5 +1,5 @@
 -- What is spelled is read, whatever follows that doesn't go on with it.
-use Rattle.std.proofs.Common.{◌≡◌, ℕ, zero, suc, ◌+◌, ◌-◌, ◌<◌, ◌≤◌, pos, int_le, Bool, true, false, if◌then◌else◌, List, [], ◌∷◌, ◌++◌, length, drop, Option, Some, None, refl, sym, ap, subst, ◌∙◌, arith, rules, append_assoc, length-append, zero-add}
+use Rattle.std.proofs.Common.{◌≡◌, ℕ, zero, suc, ◌+◌, ◌-◌, ◌<◌, ◌≤◌, pos, true, false, List, [], ◌∷◌, ◌++◌, length, Option, Some, None, refl, ap, subst, ◌∙◌, arith, append_assoc, length-append, zero-add}
 use Rattle.std.proofs.Math.Dec.{leb-zero}
 use Rattle.cal_value.specs.declared.value.Value.TheVariants as value
 use Rattle.cal_value.specs.declared.operator.Op.{Op}
@@ -7,7 +7,7 @@ use Rattle.cal_value.specs.declared.operator.Op.TheVariants as op
 use Rattle.cal_value.specs.declared.operator.Agg.{Agg}
 use Rattle.cal_value.specs.declared.operator.Agg.TheVariants as agg
 use Rattle.sql_text.specs.declared.token.Token.{Token}
-use Rattle.sql_text.specs.declared.token.Token.TheVariants.{Name, Word, Number, Text, Symbol}
+use Rattle.sql_text.specs.declared.token.Token.TheVariants.{Word, Number, Text, Symbol}
 use Rattle.sql_text.specs.declared.token.Reserved.{Reserved}
 use Rattle.sql_text.specs.declared.token.Reserved.TheVariants as w
 use Rattle.sql_text.specs.declared.token.Symbol.{Symbol as Sign}
@@ -19,14 +19,14 @@ use Rattle.sql_parser.specs.declared.expression.Level.{Level}
 use Rattle.sql_parser.specs.declared.expression.Level.TheVariants as level
 use Rattle.sql_parser.specs.declared.expression.Part.{Part}
 use Rattle.sql_parser.specs.declared.expression.Part.TheVariants as part
-use Rattle.sql_parser.specs.Input.{Input, Outcome, Reader, and_then, same_word, same_symbol, begins, is_word, is_symbol, sees_word, sees_symbol, next, after_word, after_symbol, expect_word, expect_symbol, by_token, name, number as number_reader}
-use Rattle.sql_parser.specs.Operators.{compares, adds, multiplies, aggregates}
+use Rattle.sql_parser.specs.Input.{Input, Reader, and_then, same_word, same_symbol, sees_word, sees_symbol, next, after_word, after_symbol, expect_word, expect_symbol, by_token, name, number as number_reader}
+use Rattle.sql_parser.specs.Operators.{compares, aggregates}
 use Rattle.sql_parser.specs.Reading as reading
 use Rattle.sql_parser.specs.Reading.{links, links_first, operator_at, after_operator, chain_from, chain, reads_part}
 use Rattle.sql_parser.specs.Grammar.{IsColumn, plain, qualified, IsExpr, one_conj, or_conj, IsConj, one_neg, and_neg, IsNeg, not_neg, one_pred, IsPred, one_sum, compared, is_null, is_not_null, IsSum, one_term, add_term, IsTerm, one_fact, times_fact, IsFact, minus_fact, one_prim, IsPrim, number, text, true_word, false_word, column, one_agg, bracket, IsAgg, count_all, aggregate}
 use Rattle.sql_parser.proofs.Steps.{at, no_some, some_same}
-use Rattle.sql_parser.proofs.Room.{Room, room-left, room-right, room-past, room-operator-zero, room-operator, room-bracket-zero, room-bracket, Balanced, compares-opens, adds-opens, multiplies-opens, expr-balanced, conj-balanced, sum-balanced, term-balanced}
-use Rattle.sql_parser.proofs.Follow.{first_binds, no_dot, no_is, no_or, no_and, no_comparison, no_sum, no_term, compares-binds, adds-binds, multiplies-binds, first_opens, Opens, expr-opens, pred-opens, prim-opens, no_minus, no_not, no_star}
+use Rattle.sql_parser.proofs.Room.{Room, room-left, room-right, room-past, room-operator-zero, room-operator, room-bracket-zero, room-bracket, compares-opens, adds-opens, multiplies-opens, expr-balanced, conj-balanced, sum-balanced, term-balanced}
+use Rattle.sql_parser.proofs.Follow.{first_binds, no_dot, no_is, no_or, no_and, no_comparison, no_sum, no_term, compares-binds, adds-binds, multiplies-binds, Opens, expr-opens, pred-opens, prim-opens, no_minus, no_not, no_star}
 
 pub column-reads : {ts : List Token} {c : ColumnName} → IsColumn ts c → (p : ℕ) (rest : List Token) → first_binds rest < 6
     → reading.column (at p (ts ++ rest)) ≡ Some (c, at (p + length ts) rest)

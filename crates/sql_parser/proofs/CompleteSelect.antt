@@ -1,40 +1,35 @@
 -- What is spelled as a SELECT is read.
-use Rattle.std.proofs.Common.{◌≡◌, ℕ, zero, suc, ◌+◌, ◌<◌, ◌≤◌, pos, int_le, Bool, true, false, if◌then◌else◌, List, [], ◌∷◌, ◌++◌, length, unwrap_or, Option, Some, None, refl, sym, ap, subst, ◌∙◌, arith, append_assoc, append-nil, length-append}
+use Rattle.std.proofs.Common.{◌≡◌, ℕ, zero, suc, ◌+◌, ◌<◌, ◌≤◌, Bool, true, false, if◌then◌else◌, List, [], ◌∷◌, ◌++◌, length, Option, Some, None, refl, sym, ap, subst, ◌∙◌, arith, append_assoc, append-nil, length-append}
 use Rattle.std.proofs.Math.Dec.{leb-zero}
 use Rattle.sql_text.specs.declared.token.Token.{Token}
 use Rattle.sql_text.specs.declared.token.Token.TheVariants.{Name, Word, Number, Text, Symbol}
 use Rattle.sql_text.specs.declared.token.Reserved.{Reserved}
 use Rattle.sql_text.specs.declared.token.Reserved.TheVariants as w
-use Rattle.sql_text.specs.declared.token.Symbol.{Symbol as Sign}
 use Rattle.sql_text.specs.declared.token.Symbol.TheVariants as s
 use Rattle.sql_text.specs.declared.tree.Tree.{Tree}
 use Rattle.sql_text.specs.declared.tree.ColumnName.{ColumnName}
-use Rattle.sql_text.specs.declared.select.TableName.{TableName}
 use Rattle.sql_text.specs.declared.select.Item.{Item}
 use Rattle.sql_text.specs.declared.select.Items.{Items}
-use Rattle.sql_text.specs.declared.select.Items.TheVariants.{Star, Listed}
 use Rattle.sql_text.specs.declared.select.Cond.{Cond}
 use Rattle.sql_text.specs.declared.select.Cond.TheVariants.{On, Using}
-use Rattle.sql_text.specs.declared.select.How.{How}
 use Rattle.sql_text.specs.declared.select.How.TheVariants as how
 use Rattle.sql_text.specs.declared.select.FromEntry.{FromEntry}
 use Rattle.sql_text.specs.declared.select.KeyBy.{KeyBy}
-use Rattle.sql_text.specs.declared.select.KeyBy.TheVariants as by
 use Rattle.sql_text.specs.declared.select.OrderKey.{OrderKey}
 use Rattle.sql_text.specs.declared.select.Select.{Select}
 use Rattle.sql_parser.specs.declared.select.JoinKind.{JoinKind}
 use Rattle.sql_parser.specs.declared.select.JoinKind.TheVariants as kind
-use Rattle.sql_parser.specs.Input.{Input, Reader, and_then, next, name, number, begins, is_word, is_symbol, is_number, same_word, same_symbol, sees_word, sees_symbol, sees_number, after_word, after_symbol, expect_word, expect_symbol, by_token}
+use Rattle.sql_parser.specs.Input.{Input, next, name, number, begins, is_word, same_word, same_symbol, sees_word, sees_symbol, sees_number, after_word, after_symbol, expect_word, expect_symbol, by_token}
 use Rattle.sql_parser.specs.Reading.{column, expression}
-use Rattle.sql_parser.specs.ReadingList.{separated, table, alias}
+use Rattle.sql_parser.specs.ReadingList.{separated}
 use Rattle.sql_parser.specs.ReadingSelect as reading
 use Rattle.sql_parser.specs.Grammar as grammar
 use Rattle.sql_parser.specs.Grammar.{IsColumn, plain, qualified, IsExpr, Separated, last, comma, IsTable, IsAlias, no_alias, as_alias, IsItem, item, AreItems, star, items, IsEntry, entry, IsName, IsCond, on, using, IsJoin, comma_entry, cross_join, join, inner_join, left_join, left_outer_join, AreJoins, no_joins, joins, IsClause, no_clause, clause, IsColumnAt, AreGroups, no_groups, groups, IsKeyBy, by_number, by_column, IsDirection, no_direction, asc, desc, IsNulls, no_nulls, nulls_first, nulls_last, IsKey, key, AreKeys, no_keys, keys, IsDistinct, all_rows, distinct, IsFrom, from, IsSelect, select}
 use Rattle.sql_parser.proofs.Steps.{at, same_self}
 use Rattle.sql_parser.proofs.Room.{Room, room-left, room-tail, room-behind}
-use Rattle.sql_parser.proofs.Follow.{Opens, expr-opens, before, first_opens, no_star, no_distinct}
+use Rattle.sql_parser.proofs.Follow.{Opens, expr-opens, before, no_star, no_distinct}
 use Rattle.sql_parser.proofs.Complete.{expr-reads, column-reads}
-use Rattle.sql_parser.proofs.CompleteList.{word_stage, first_stage, past_expression, past_column, past_comma, past_word, separated-reads, table-reads, alias-reads, name-reads}
+use Rattle.sql_parser.proofs.CompleteList.{word_stage, first_stage, past_expression, past_column, past_word, separated-reads, table-reads, alias-reads, name-reads}
 
 -- ---- what a part begins with
 

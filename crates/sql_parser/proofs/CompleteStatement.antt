@@ -1,14 +1,12 @@
 -- What is spelled as a statement is read.
-use Rattle.std.proofs.Common.{◌≡◌, ℕ, zero, suc, ◌+◌, ◌<◌, ◌≤◌, ℤ, pos, int_le, neg_ℤ, nat_abs, Bool, true, false, ◌&&◌, if◌then◌else◌, List, [], ◌∷◌, ◌++◌, length, Option, Some, None, refl, sym, ap, subst, ◌∙◌, arith, append_assoc, append-nil, length-append}
+use Rattle.std.proofs.Common.{◌≡◌, ℕ, suc, ◌+◌, ◌<◌, ◌≤◌, pos, neg_ℤ, false, List, [], ◌∷◌, ◌++◌, length, Option, Some, None, refl, sym, ap, ◌∙◌, arith, append_assoc, append-nil, length-append}
 use Rattle.std.proofs.Math.Dec.{leb-zero}
 use Rattle.std.proofs.lemmas.Bool.{le-leb}
 use Rattle.cal_value.specs.declared.value.Value.{Value}
 use Rattle.cal_value.specs.declared.value.Value.TheVariants as value
 use Rattle.sql_text.specs.declared.token.Token.{Token}
 use Rattle.sql_text.specs.declared.token.Token.TheVariants.{Name, Word, Number, Text, Symbol}
-use Rattle.sql_text.specs.declared.token.Reserved.{Reserved}
 use Rattle.sql_text.specs.declared.token.Reserved.TheVariants as w
-use Rattle.sql_text.specs.declared.token.Symbol.{Symbol as Sign}
 use Rattle.sql_text.specs.declared.token.Symbol.TheVariants as s
 use Rattle.sql_text.specs.declared.tree.Tree.{Tree}
 use Rattle.sql_text.specs.declared.tree.ColumnName.{ColumnName}
@@ -17,10 +15,9 @@ use Rattle.sql_text.specs.declared.select.Select.{Select}
 use Rattle.sql_text.specs.declared.statement.TileText.{TileText}
 use Rattle.sql_text.specs.declared.statement.Statement.{Statement}
 use Rattle.sql_text.specs.declared.statement.Statement.TheVariants as statement
-use Rattle.sql_parser.specs.Input.{Input, Reader, and_then, next, number, begins, is_word, is_symbol, same_word, same_symbol, sees_word, sees_symbol, after_word, after_symbol, expect_word, expect_symbol, by_token}
-use Rattle.sql_parser.specs.Reading.{column, aggregation}
-use Rattle.sql_parser.specs.ReadingList.{separated, table}
-use Rattle.sql_parser.specs.ReadingSelect as select_reading
+use Rattle.sql_parser.specs.Input.{and_then, next, number, begins, is_word, is_symbol, same_word, same_symbol, sees_word, sees_symbol, after_word, after_symbol, expect_word, expect_symbol, by_token}
+use Rattle.sql_parser.specs.Reading.{aggregation}
+use Rattle.sql_parser.specs.ReadingList.{separated}
 use Rattle.sql_parser.specs.ReadingStatement as reading
 use Rattle.sql_parser.specs.Grammar as grammar
 use Rattle.sql_parser.specs.Grammar.{of_column, IsColumnAt, IsColumn, Separated, last, comma, IsTable, IsSelect, IsLit, number_lit, minus_number_lit, text_lit, true_lit, false_lit, null_lit, IsRow, row, AreDims, no_dims, dims, IsMeasure, measure, AreMeasures, no_measures, measures, IsTile, tile, IsBody, query, explain_plan, explain_memo, insert, refresh, create_tile, drop_tile, choose_tiles, Spells, body, ended}
@@ -28,7 +25,7 @@ use Rattle.sql_parser.proofs.Steps.{at}
 use Rattle.sql_parser.proofs.Room.{Room, room-left, room-tail, room-behind}
 use Rattle.sql_parser.proofs.Follow.{Opens, before, column-opens, first_opens}
 use Rattle.sql_parser.proofs.Complete.{aggregation-reads}
-use Rattle.sql_parser.proofs.CompleteList.{word_stage, first_stage, past_word, separated-reads, table-reads}
+use Rattle.sql_parser.proofs.CompleteList.{first_stage, past_word, separated-reads, table-reads}
 use Rattle.sql_parser.proofs.CompleteSelect.{columns-read, select-reads, SelectReads}
 
 abbrev Any : List Token → Type 0

@@ -1,5 +1,5 @@
 -- With what a part of an expression begins, and what may follow it.
-use Rattle.std.proofs.Common.{◌≡◌, ℕ, zero, suc, ◌+◌, ◌<◌, ◌≤◌, Bool, true, false, List, [], ◌∷◌, ◌++◌, Option, Some, None, refl, sym, ap, subst, ◌∙◌, arith, append_assoc}
+use Rattle.std.proofs.Common.{◌≡◌, ℕ, ◌<◌, ◌≤◌, false, List, [], ◌∷◌, ◌++◌, Some, None, refl, sym, subst, arith, append_assoc}
 use Rattle.cal_value.specs.declared.operator.Op.{Op}
 use Rattle.cal_value.specs.declared.operator.Agg.{Agg}
 use Rattle.sql_text.specs.declared.token.Token.{Token}

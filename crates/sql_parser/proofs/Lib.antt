@@ -11,3 +11,9 @@ pub mod SoundStatement
 pub mod CompleteSelect
 pub mod CompleteStatement
 pub mod Whole
+pub mod Again
+pub mod AgainSelect
+pub mod AgainStatement
+pub mod Kept
+pub mod KeptSelect
+pub mod KeptStatement

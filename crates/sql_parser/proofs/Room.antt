@@ -1,18 +1,16 @@
 -- How brackets and operators bound what nests.
-use Rattle.std.proofs.Common.{◌≡◌, ℕ, zero, suc, ◌+◌, ◌-◌, ◌≤◌, max, Bool, true, false, List, [], ◌∷◌, ◌++◌, length, drop, drop-cons, drop_of_length-le, add-one, get_or, ◌<◌, Option, Some, None, refl, sym, ap, subst, ◌∙◌, arith, rules, append_assoc}
+use Rattle.std.proofs.Common.{◌≡◌, ℕ, zero, suc, ◌+◌, ◌-◌, ◌≤◌, max, List, [], ◌∷◌, ◌++◌, length, drop, drop-cons, drop_of_length-le, add-one, get_or, ◌<◌, Some, refl, sym, ap, ◌∙◌, arith, append_assoc}
 use Rattle.std.proofs.lemmas.List.Sums.{sum_by-append}
 use Rattle.cal_value.specs.declared.operator.Op.{Op}
-use Rattle.cal_value.specs.declared.operator.Agg.{Agg}
 use Rattle.sql_text.specs.declared.token.Token.{Token}
 use Rattle.sql_text.specs.declared.token.Token.TheVariants.{Name, Word, Number, Text, Symbol}
 use Rattle.sql_text.specs.declared.token.Reserved.{Reserved}
-use Rattle.sql_text.specs.declared.token.Reserved.TheVariants as w
 use Rattle.sql_text.specs.declared.token.Symbol.{Symbol as Sign}
 use Rattle.sql_text.specs.declared.token.Symbol.TheVariants as s
 use Rattle.sql_text.specs.declared.tree.Tree.{Tree}
 use Rattle.sql_text.specs.declared.tree.ColumnName.{ColumnName}
-use Rattle.sql_parser.specs.Limits.{opened, most_open, operators, is_operator}
-use Rattle.sql_parser.specs.Operators.{compares, adds, multiplies, aggregates}
+use Rattle.sql_parser.specs.Limits.{opened, most_open, operators}
+use Rattle.sql_parser.specs.Operators.{compares, adds, multiplies}
 use Rattle.sql_parser.specs.Grammar.{IsColumn, plain, qualified, IsExpr, one_conj, or_conj, IsConj, one_neg, and_neg, IsNeg, not_neg, one_pred, IsPred, one_sum, compared, is_null, is_not_null, IsSum, one_term, add_term, IsTerm, one_fact, times_fact, IsFact, minus_fact, one_prim, IsPrim, number, text, true_word, false_word, column, one_agg, bracket, IsAgg, count_all, aggregate}
 use Rattle.sql_parser.proofs.Steps.{no_some}
 

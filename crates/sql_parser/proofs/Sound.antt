@@ -1,5 +1,5 @@
 -- What is read is spelled so.
-use Rattle.std.proofs.Common.{◌≡◌, ℕ, zero, suc, ◌+◌, pos, Bool, true, false, if◌then◌else◌, List, [], ◌∷◌, ◌++◌, length, drop, Option, Some, None, refl, sym, ap, subst, ◌∙◌, arith, rules, append_assoc, length-append}
+use Rattle.std.proofs.Common.{◌≡◌, ℕ, zero, suc, ◌+◌, pos, Bool, true, false, List, [], ◌∷◌, ◌++◌, length, Option, Some, None, refl, sym, ap, subst, ◌∙◌, arith, append_assoc, length-append}
 use Rattle.cal_value.specs.declared.value.Value.TheVariants as value
 use Rattle.cal_value.specs.declared.operator.Op.{Op}
 use Rattle.cal_value.specs.declared.operator.Op.TheVariants as op
@@ -12,7 +12,7 @@ use Rattle.sql_text.specs.declared.token.Reserved.TheVariants as w
 use Rattle.sql_text.specs.declared.token.Symbol.{Symbol as Sign}
 use Rattle.sql_text.specs.declared.token.Symbol.TheVariants as s
 use Rattle.sql_text.specs.declared.tree.Tree.{Tree}
-use Rattle.sql_text.specs.declared.tree.Tree.TheVariants.{Column, Literal, Negate, Binary, Not, IsNull, Aggregate}
+use Rattle.sql_text.specs.declared.tree.Tree.TheVariants.{Literal, Binary, Not, IsNull}
 use Rattle.sql_text.specs.declared.tree.ColumnName.{ColumnName}
 use Rattle.sql_parser.specs.declared.expression.Level.{Level}
 use Rattle.sql_parser.specs.declared.expression.Level.TheVariants as level
@@ -24,7 +24,7 @@ use Rattle.sql_parser.specs.Reading.{links, links_first, operator_at, after_oper
 use Rattle.sql_parser.specs.Reading as reading
 use Rattle.sql_parser.specs.Grammar as grammar
 use Rattle.sql_parser.specs.Grammar.{count_all, one_agg, one_conj, one_neg, not_neg, one_pred, one_sum, one_term, one_fact, minus_fact, one_prim, true_word, false_word, bracket, IsColumn, plain, qualified, IsExpr, or_conj, IsConj, and_neg, IsNeg, IsPred, compared, IsSum, add_term, IsTerm, times_fact, IsFact, IsPrim, IsAgg, aggregate}
-use Rattle.sql_parser.proofs.Steps.{at, no_some, some_same, bind_some, guard_some, word_same, Took, Ate, ate, left_it, symbol_eaten, word_eaten, name_found, number_found, word_expected, symbol_expected}
+use Rattle.sql_parser.proofs.Steps.{at, no_some, some_same, bind_some, guard_some, word_same, Took, ate, left_it, symbol_eaten, word_eaten, name_found, number_found, word_expected, symbol_expected}
 
 pub column-sound : (i : Input) (r : ColumnName × Input) → column i ≡ Some r → Took (λ _. IsColumn) i r.0 r.1
 unfolding column

@@ -1,7 +1,7 @@
 -- What is read of lists and names is spelled so.
-use Rattle.std.proofs.Common.{◌≡◌, ℕ, zero, suc, ◌+◌, Bool, true, false, if◌then◌else◌, ◌||◌, List, [], ◌∷◌, ◌++◌, length, Option, Some, None, refl, sym, ap, subst, ◌∙◌, arith, append_assoc, append-nil, length-append}
+use Rattle.std.proofs.Common.{◌≡◌, ℕ, zero, suc, ◌+◌, Bool, true, false, if◌then◌else◌, List, [], ◌∷◌, ◌++◌, length, Option, Some, None, refl, sym, ap, subst, ◌∙◌, arith, append_assoc, append-nil, length-append}
 use Rattle.sql_text.specs.declared.token.Token.{Token}
-use Rattle.sql_text.specs.declared.token.Token.TheVariants.{Name, Word, Number, Text, Symbol}
+use Rattle.sql_text.specs.declared.token.Token.TheVariants.{Name, Word, Symbol}
 use Rattle.sql_text.specs.declared.token.Reserved.TheVariants as w
 use Rattle.sql_text.specs.declared.token.Symbol.TheVariants as s
 use Rattle.sql_text.specs.declared.select.TableName.{TableName}
@@ -10,7 +10,7 @@ use Rattle.sql_parser.specs.ReadingList.{separated_from, separated}
 use Rattle.sql_parser.specs.ReadingList as reading
 use Rattle.sql_parser.specs.Grammar.{Separated, last, comma, IsTable, plain_table, qualified_table, IsAlias, no_alias, alias, as_alias, IsName}
 use Rattle.sql_parser.specs.Grammar as grammar
-use Rattle.sql_parser.proofs.Steps.{at, no_some, some_same, bind_some, guard_some, Took, Ate, ate, left_it, symbol_eaten, word_eaten, name_found}
+use Rattle.sql_parser.proofs.Steps.{some_same, bind_some, Took, ate, left_it, symbol_eaten, word_eaten, name_found}
 
 -- ---- what was taken, one after another
 

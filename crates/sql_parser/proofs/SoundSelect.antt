@@ -1,5 +1,5 @@
 -- What is read of a SELECT is spelled so.
-use Rattle.std.proofs.Common.{◌≡◌, ℕ, zero, suc, ◌+◌, pos, Bool, true, false, if◌then◌else◌, List, [], ◌∷◌, ◌++◌, length, unwrap_or, Option, Some, None, refl, sym, ap, subst, ◌∙◌, arith, append_assoc, append-nil, length-append}
+use Rattle.std.proofs.Common.{◌≡◌, ℕ, zero, suc, ◌+◌, pos, Bool, true, false, if◌then◌else◌, List, [], ◌∷◌, ◌++◌, length, Option, Some, None, refl, sym, ap, subst, ◌∙◌, arith, append_assoc, append-nil, length-append}
 use Rattle.sql_text.specs.declared.token.Token.{Token}
 use Rattle.sql_text.specs.declared.token.Token.TheVariants.{Name, Word, Number, Text, Symbol}
 use Rattle.sql_text.specs.declared.token.Reserved.{Reserved}
@@ -13,7 +13,7 @@ use Rattle.sql_text.specs.declared.select.Item.{Item}
 use Rattle.sql_text.specs.declared.select.Items.{Items}
 use Rattle.sql_text.specs.declared.select.Items.TheVariants.{Star, Listed}
 use Rattle.sql_text.specs.declared.select.Cond.{Cond}
-use Rattle.sql_text.specs.declared.select.Cond.TheVariants.{On, Using}
+use Rattle.sql_text.specs.declared.select.Cond.TheVariants.{On}
 use Rattle.sql_text.specs.declared.select.How.{How}
 use Rattle.sql_text.specs.declared.select.How.TheVariants as how
 use Rattle.sql_text.specs.declared.select.FromEntry.{FromEntry}
@@ -24,15 +24,15 @@ use Rattle.sql_text.specs.declared.select.Select.{Select}
 use Rattle.sql_parser.specs.declared.select.JoinKind.{JoinKind}
 use Rattle.sql_parser.specs.declared.select.JoinKind.TheVariants as kind
 use Rattle.sql_parser.specs.declared.expression.Part.TheVariants as part
-use Rattle.sql_parser.specs.Input.{Input, Reader, ◌>>=◌, pure, next, name, number, sees_number, expect_word, expect_symbol, sees_word, after_word}
-use Rattle.sql_parser.specs.Reading.{column, expression, reads_part}
+use Rattle.sql_parser.specs.Input.{Input, ◌>>=◌, pure, next, name, number, sees_number, expect_word, expect_symbol, sees_word, after_word}
+use Rattle.sql_parser.specs.Reading.{column, expression}
 use Rattle.sql_parser.specs.ReadingList.{separated, table, alias}
 use Rattle.sql_parser.specs.ReadingSelect as reading
 use Rattle.sql_parser.specs.Grammar as grammar
 use Rattle.sql_parser.specs.Grammar.{IsColumn, IsExpr, Separated, IsTable, IsAlias, IsItem, AreItems, IsEntry, IsName, IsCond, IsJoin, AreJoins, IsClause, IsColumnAt, AreGroups, IsKeyBy, IsDirection, IsNulls, IsKey, AreKeys, IsDistinct, IsFrom, IsSelect}
-use Rattle.sql_parser.proofs.Steps.{at, no_some, some_same, bind_some, Took, Ate, ate, left_it, symbol_eaten, word_eaten, name_found, number_found, word_expected, symbol_expected}
+use Rattle.sql_parser.proofs.Steps.{at, some_same, bind_some, Took, ate, left_it, symbol_eaten, word_eaten, number_found, word_expected, symbol_expected}
 use Rattle.sql_parser.proofs.Sound.{column-sound, reads_part-sound}
-use Rattle.sql_parser.proofs.SoundList.{followed, behind, closed, alone, nothing, seen_as, separated-sound, TableAt, AliasAt, table-sound, alias-sound, name-sound}
+use Rattle.sql_parser.proofs.SoundList.{followed, behind, alone, nothing, seen_as, separated-sound, TableAt, AliasAt, table-sound, alias-sound, name-sound}
 
 pub expression-sound : (n : ℕ) (i : Input) (r : Tree × Input) → expression n i ≡ Some r → Took IsExpr i r.0 r.1
 unfolding expression

@@ -1,5 +1,5 @@
 -- What is read of a statement is spelled so.
-use Rattle.std.proofs.Common.{◌≡◌, ℕ, zero, suc, ◌+◌, ◌≤◌, ℤ, pos, negsuc, int_le, neg_ℤ, nat_abs, Bool, true, false, ◌&&◌, if◌then◌else◌, List, [], ◌∷◌, ◌++◌, length, Option, Some, None, refl, sym, ap, subst, ◌∙◌, arith, append_assoc, append-nil, length-append}
+use Rattle.std.proofs.Common.{◌≡◌, ℕ, ◌+◌, ◌≤◌, pos, int_le, neg_ℤ, nat_abs, Bool, true, false, ◌&&◌, List, [], ◌∷◌, ◌++◌, length, Option, Some, None, refl, sym, ap, subst, ◌∙◌, arith, append_assoc, append-nil, length-append}
 use Rattle.std.proofs.lemmas.Bool.{leb-true}
 use Rattle.cal_value.specs.declared.value.Value.{Value}
 use Rattle.cal_value.specs.declared.value.Value.TheVariants as value
@@ -7,7 +7,6 @@ use Rattle.sql_text.specs.declared.token.Token.{Token}
 use Rattle.sql_text.specs.declared.token.Token.TheVariants.{Name, Word, Number, Text, Symbol}
 use Rattle.sql_text.specs.declared.token.Reserved.{Reserved}
 use Rattle.sql_text.specs.declared.token.Reserved.TheVariants as w
-use Rattle.sql_text.specs.declared.token.Symbol.{Symbol as Sign}
 use Rattle.sql_text.specs.declared.token.Symbol.TheVariants as s
 use Rattle.sql_text.specs.declared.tree.Tree.{Tree}
 use Rattle.sql_text.specs.declared.tree.ColumnName.{ColumnName}
@@ -17,16 +16,16 @@ use Rattle.sql_text.specs.declared.statement.TileText.{TileText}
 use Rattle.sql_text.specs.declared.statement.Statement.{Statement}
 use Rattle.sql_text.specs.declared.statement.Statement.TheVariants as statement
 use Rattle.sql_parser.specs.declared.expression.Part.TheVariants as part
-use Rattle.sql_parser.specs.Input.{Input, Reader, ◌>>=◌, pure, next, number, by_token, expect_word, expect_symbol, after_symbol}
+use Rattle.sql_parser.specs.Input.{Input, pure, next, number, by_token, expect_word, expect_symbol, after_symbol}
 use Rattle.sql_parser.specs.Reading.{column, aggregation}
 use Rattle.sql_parser.specs.ReadingList.{separated, table}
 use Rattle.sql_parser.specs.ReadingSelect.{select}
 use Rattle.sql_parser.specs.ReadingStatement as reading
 use Rattle.sql_parser.specs.Grammar as grammar
 use Rattle.sql_parser.specs.Grammar.{of_column, IsColumnAt, IsAgg, Separated, IsTable, IsSelect, IsLit, IsRow, AreDims, IsMeasure, AreMeasures, IsTile, IsBody, Spells}
-use Rattle.sql_parser.proofs.Steps.{at, no_some, some_same, bind_some, guard_some, guard_reader, Took, Ate, ate, left_it, symbol_eaten, word_eaten, number_found, word_expected, symbol_expected}
+use Rattle.sql_parser.proofs.Steps.{at, no_some, some_same, bind_some, guard_reader, Took, ate, left_it, symbol_eaten, word_eaten, number_found, word_expected, symbol_expected}
 use Rattle.sql_parser.proofs.Sound.{reads_part-sound}
-use Rattle.sql_parser.proofs.SoundList.{followed, behind, closed, alone, nothing, seen_as, separated-sound, TableAt, table-sound}
+use Rattle.sql_parser.proofs.SoundList.{behind, closed, alone, nothing, seen_as, separated-sound, TableAt, table-sound}
 use Rattle.sql_parser.proofs.SoundSelect.{column_at-sound, select-sound}
 
 -- ---- rows

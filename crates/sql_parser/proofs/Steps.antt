@@ -1,13 +1,13 @@
 -- The steps of a reader, taken apart and put together.
-use Rattle.std.proofs.Common.{◌≡◌, ℕ, zero, suc, ◌+◌, ℤ, pos, negsuc, int_le, Bool, true, false, if◌then◌else◌, List, [], ◌∷◌, ◌++◌, length, drop, Option, Some, None, refl, sym, ap, subst, ◌∙◌, arith, rules, append_assoc, length-append}
-use denote.Enum.Bare.{sameb, same_true, true_same, false_same}
+use Rattle.std.proofs.Common.{◌≡◌, ℕ, ◌+◌, ℤ, pos, negsuc, int_le, Bool, true, false, if◌then◌else◌, List, [], ◌∷◌, ◌++◌, length, Some, None, refl, sym, ap, subst, ◌∙◌, rules}
+use denote.Enum.Bare.{same_true, true_same, false_same}
 use Rattle.sql_text.specs.declared.token.Token.{Token}
 use Rattle.sql_text.specs.declared.token.Token.TheVariants.{Name, Word, Number, Text, Symbol}
 use Rattle.sql_text.specs.declared.token.Reserved.{Reserved}
 use Rattle.sql_text.specs.declared.token.Symbol.{Symbol as Sign}
 use Rattle.sql_text.specs.contracts.token.Reserved.{the_type as reserved_type}
 use Rattle.sql_text.specs.contracts.token.Symbol.{the_type as symbol_type}
-use Rattle.sql_parser.specs.Input.{Input, Outcome, Reader, and_then, same_word, same_symbol, is_word, is_symbol, begins, sees_word, sees_symbol, next, after_word, after_symbol, expect_word, expect_symbol, by_first, by_token, name, number}
+use Rattle.sql_parser.specs.Input.{Input, Outcome, Reader, and_then, same_word, same_symbol, sees_word, sees_symbol, next, after_word, after_symbol, expect_word, expect_symbol, by_token, name, number}
 
 abbrev pub at : ℕ → List Token → Input
 at p l = record { place = p; left = l }

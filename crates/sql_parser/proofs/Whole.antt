@@ -1,5 +1,5 @@
 -- The reader against the grammar.
-use Rattle.std.proofs.Common.{◌≡◌, ℕ, zero, suc, ◌+◌, ◌≤◌, Bool, true, false, List, [], ◌∷◌, Option, Some, None, Result, Ok, Err, IfOk, IfErr, refl, sym, ap, subst, ◌∙◌, arith}
+use Rattle.std.proofs.Common.{◌≡◌, ℕ, ◌+◌, true, false, List, [], ◌∷◌, Some, None, Result, Ok, Err, IfOk, IfErr, refl, sym, ◌∙◌, arith}
 use Rattle.sql_text.specs.declared.token.Token.{Token}
 use Rattle.sql_text.specs.declared.token.Token.TheVariants.{Name, Word, Number, Text, Symbol}
 use Rattle.sql_text.specs.declared.token.Reserved.TheVariants as w
@@ -12,7 +12,6 @@ use Rattle.sql_parser.specs.Answers.{IsWithinLimits, IsFaultOf, IsAnswer}
 use Rattle.sql_parser.specs.declared.fault.ParseFault.{ParseFault}
 use Rattle.sql_parser.specs.declared.fault.ParseFault.TheVariants.{TooDeep, TooManyOperators, NotSql, NoMemory}
 use Rattle.sql_parser.proofs.Steps.{some_same, no_some}
-use Rattle.sql_parser.proofs.Room.{Room}
 use Rattle.sql_parser.proofs.SoundStatement.{read-spells}
 use Rattle.sql_parser.proofs.CompleteStatement.{read-complete}
 

@@ -1,7 +1,9 @@
--- What the parser answers, and where each fault comes.
-use Rattle.std.specs.Prelude.{◌≡◌, ℕ, ◌<◌, ◌≤◌, Bool, true, false, List, Option, Some, None, Result, Ok, Err}
+-- What the parser answers, where each fault comes, and when a text is one of a statement.
+use Rattle.std.specs.Prelude.{◌≡◌, ℕ, ◌<◌, ◌≤◌, false, List, Option, Some, None, Result, Ok, Err}
 use Rattle.sql_text.specs.declared.token.Token.{Token}
 use Rattle.sql_text.specs.declared.statement.Statement.{Statement}
+use Rattle.sql_text.specs.Same.{IsSame}
+use Rattle.sql_text.specs.Tokens.{HasTokens}
 use Rattle.sql_parser.specs.declared.fault.ParseFault.{ParseFault}
 use Rattle.sql_parser.specs.declared.fault.ParseFault.TheVariants.{TooDeep, TooManyOperators, NotSql, NoMemory}
 use Rattle.sql_parser.specs.Limits.{most_open, operators, is_insert}
@@ -25,3 +27,11 @@ IsAnswer read (Err NotSql) = read ≡ None
 IsAnswer read (Err NoMemory) = Unit {0}
 IsAnswer read (Err (TooDeep limit)) = ⊥
 IsAnswer read (Err (TooManyOperators limit)) = ⊥
+
+-- a text whose tokens spell the statement, places aside
+pub record IsTextOf (cs : List ℕ) (x : Statement) : Type 0 where
+  pub tokens : List Token
+  pub statement : Statement
+  pub has : HasTokens cs tokens
+  pub spelled : Spells tokens statement
+  pub same : IsSame statement x

@@ -1,6 +1,6 @@
 -- The grammar. `IsExpr place tokens tree` says that these tokens, the first of which has this place, are an `expr`
 -- with this tree; likewise for the other parts. Each part has one constructor for each production.
-use Rattle.std.specs.Prelude.{◌≡◌, ℕ, zero, suc, ◌+◌, ◌≤◌, pos, neg_ℤ, Bool, true, false, List, [], ◌∷◌, ◌++◌, length, unwrap_or, Option, Some, None}
+use Rattle.std.specs.Prelude.{◌≡◌, ℕ, ◌+◌, ◌≤◌, pos, neg_ℤ, Bool, true, false, List, [], ◌∷◌, ◌++◌, length, unwrap_or, Option, Some, None}
 use Rattle.cal_value.specs.declared.value.Value.{Value}
 use Rattle.cal_value.specs.declared.value.Value.TheVariants as value
 use Rattle.cal_value.specs.declared.operator.Op.{Op}

@@ -1,11 +1,9 @@
 -- Which operator a token is, beside the operators that bind equally tightly.
-use Rattle.std.specs.Prelude.{Bool, true, false, if◌then◌else◌, Option, Some, None}
+use Rattle.std.specs.Prelude.{Option, Some, None}
 use Rattle.cal_value.specs.declared.operator.Op.{Op}
 use Rattle.cal_value.specs.declared.operator.Op.TheVariants as op
 use Rattle.cal_value.specs.declared.operator.Agg.{Agg}
 use Rattle.cal_value.specs.declared.operator.Agg.TheVariants as agg
-use Rattle.sql_text.specs.declared.token.Token.{Token}
-use Rattle.sql_text.specs.declared.token.Token.TheVariants.{Name, Word, Number, Text, Symbol}
 use Rattle.sql_text.specs.declared.token.Symbol.{Symbol as Sign}
 use Rattle.sql_text.specs.declared.token.Symbol.TheVariants as s
 use Rattle.sql_text.specs.declared.token.Reserved.{Reserved}

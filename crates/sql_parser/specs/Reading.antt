@@ -1,5 +1,5 @@
 -- How an expression is read, from left to right. Each rule of the grammar has a reader.
-use Rattle.std.specs.Prelude.{ℕ, zero, suc, ◌+◌, Bool, true, false, if◌then◌else◌, List, [], ◌∷◌, length, Option, Some, None}
+use Rattle.std.specs.Prelude.{ℕ, zero, suc, Bool, true, false, if◌then◌else◌, List, [], ◌∷◌, length, Option, Some, None}
 use Rattle.cal_value.specs.declared.value.Value.TheVariants as value
 use Rattle.cal_value.specs.declared.operator.Op.{Op}
 use Rattle.cal_value.specs.declared.operator.Op.TheVariants as op
@@ -18,8 +18,8 @@ use Rattle.sql_parser.specs.declared.expression.Level.{Level}
 use Rattle.sql_parser.specs.declared.expression.Level.TheVariants as level
 use Rattle.sql_parser.specs.declared.expression.Part.{Part}
 use Rattle.sql_parser.specs.declared.expression.Part.TheVariants as part
-use Rattle.sql_parser.specs.Input.{Input, Reader, ◌>>=◌, ◌>>◌, pure, refuse, skip, next, here, same_word, eat_word, eat_symbol, sees_word, sees_symbol, expect_word, expect_symbol, name, number, by_token}
-use Rattle.sql_parser.specs.Operators.{compares, adds, multiplies, aggregates}
+use Rattle.sql_parser.specs.Input.{Input, Reader, ◌>>=◌, ◌>>◌, pure, refuse, skip, next, here, same_word, eat_word, eat_symbol, expect_word, expect_symbol, name, number, by_token}
+use Rattle.sql_parser.specs.Operators.{compares, adds, multiplies}
 
 abbrev pub word_links : Level → Reserved → Option Op
 word_links level.Or v = if same_word v w.Or then Some op.Or else None

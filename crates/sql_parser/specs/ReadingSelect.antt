@@ -23,7 +23,7 @@ use Rattle.sql_text.specs.declared.select.OrderKey.{OrderKey}
 use Rattle.sql_text.specs.declared.select.Select.{Select}
 use Rattle.sql_parser.specs.declared.select.JoinKind.{JoinKind}
 use Rattle.sql_parser.specs.declared.select.JoinKind.TheVariants as kind
-use Rattle.sql_parser.specs.Input.{Input, Reader, ◌>>=◌, ◌>>◌, pure, refuse, skip, here, look, sees_number, eat_word, eat_symbol, expect_word, expect_symbol, name, number}
+use Rattle.sql_parser.specs.Input.{Reader, ◌>>=◌, ◌>>◌, pure, skip, here, look, sees_number, eat_word, eat_symbol, expect_word, expect_symbol, name, number}
 use Rattle.sql_parser.specs.Reading.{column, expression}
 use Rattle.sql_parser.specs.ReadingList.{separated, table, alias}
 

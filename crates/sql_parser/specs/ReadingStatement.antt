@@ -1,5 +1,5 @@
 -- How a statement is read.
-use Rattle.std.specs.Prelude.{ℕ, zero, suc, pos, ℤ, int_le, neg_ℤ, nat_abs, Bool, true, false, ◌&&◌, if◌then◌else◌, List, [], ◌∷◌, ◌++◌, length, Option, Some, None}
+use Rattle.std.specs.Prelude.{ℕ, pos, int_le, neg_ℤ, nat_abs, true, false, ◌&&◌, if◌then◌else◌, List, [], ◌∷◌, Option, Some, None}
 use Rattle.cal_value.specs.declared.value.Value.{Value}
 use Rattle.cal_value.specs.declared.value.Value.TheVariants as value
 use Rattle.sql_text.specs.declared.token.Token.{Token}
@@ -12,7 +12,7 @@ use Rattle.sql_text.specs.declared.tree.ColumnName.{ColumnName}
 use Rattle.sql_text.specs.declared.statement.TileText.{TileText}
 use Rattle.sql_text.specs.declared.statement.Statement.{Statement}
 use Rattle.sql_text.specs.declared.statement.Statement.TheVariants as statement
-use Rattle.sql_parser.specs.Input.{Input, Reader, ◌>>=◌, ◌>>◌, pure, refuse, skip, look, sees_number, by_token, eat_word, eat_symbol, expect_word, expect_symbol, number}
+use Rattle.sql_parser.specs.Input.{Input, Reader, ◌>>=◌, ◌>>◌, pure, refuse, skip, by_token, eat_word, eat_symbol, expect_word, expect_symbol, number}
 use Rattle.sql_parser.specs.Grammar.{of_column}
 use Rattle.sql_parser.specs.Reading.{column, aggregation}
 use Rattle.sql_parser.specs.ReadingList.{separated, table}

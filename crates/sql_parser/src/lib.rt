@@ -4,6 +4,7 @@
 mod cursor;
 mod expression;
 mod fault;
+mod laws;
 mod limits;
 mod list;
 mod parser;
@@ -11,6 +12,7 @@ mod select;
 mod statement;
 
 pub use fault::ParseFault;
+pub use laws::printed_text_spells_the_statement;
 pub use limits::{MOST_OPEN, MOST_OPERATORS};
 pub use parser::{one_statement, parse};
 

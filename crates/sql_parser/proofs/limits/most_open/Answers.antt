@@ -1,4 +1,4 @@
-use Rattle.std.proofs.Common.{◌≡◌, ◌+◌, ◌≤◌, max, sym, ◌∙◌, arith}
+use Rattle.std.proofs.Common.{sym, ◌∙◌, arith}
 use Rattle.sql_parser.proofs.Room.{opened-few, most_open-step, most_open-end}
 use Rattle.sql_parser.proofs.limits.most_open.Goals as goal
 

@@ -2,7 +2,7 @@ use Rattle.std.proofs.Common.{rules, arith}
 use Rattle.std.proofs.lemmas.Grind.{common_steps}
 use Rattle.sql_parser.specs.declared.expression.Level.TheVariants as level
 use Rattle.sql_parser.specs.Reading.{factor, chain_from, reads_part}
-use Rattle.sql_parser.proofs.Turns.{one_more, no_more}
+use Rattle.sql_parser.proofs.Turns.{one_more}
 use Rattle.sql_parser.proofs.expression.Rules.term.Goals as goal
 
 pub loop-turn-preserved : goal.loop-turn-preserved
