@@ -1,5 +1,5 @@
-use crate::{ParseFault, one_statement, parse};
-use sql_text::tokens;
+use crate::{ParseFault, one_statement, parse, printed_text_spells_the_statement};
+use sql_text::{print_statement, tokens};
 use std::alloc::Global;
 use std::test::Fail;
 
@@ -97,5 +97,112 @@ fn the_two_limits(rt: HostRuntime) -> Result<(), Fail> {
         );
     }
     one_statement();
+    Ok(())
+}
+
+/// What the statement of a text prints as.
+fn printed(alloc: Global, text: &str) -> Result<String, Fail> {
+    let found = tokens(alloc, text)?;
+    let statement = parse(alloc, &found)?;
+    let bytes = print_statement(alloc, &statement)?;
+    Ok(String::from_str(alloc, str::from_utf8(bytes.as_slice())?)?)
+}
+
+/// A SELECT of these items.
+fn selected(alloc: Global, items: &str) -> Result<String, Fail> {
+    Ok(format!(in alloc; "SELECT {items} FROM T")?)
+}
+
+#[test]
+fn what_expressions_print_as(rt: HostRuntime) -> Result<(), Fail> {
+    let rows = [
+        ("A - B - C", "A - B - C"),
+        ("A - (B - C) + (D)", "A - (B - C) + D"),
+        ("A / B * (C * D)", "A / B * (C * D)"),
+        ("(A + B) * - - 1", "(A + B) * - - 1"),
+        ("-(A + B), (-A) + (007)", "- (A + B), - A + 7"),
+        ("NOT A = B AND C OR D", "NOT A = B AND C OR D"),
+        ("NOT (A <> (B AND (C OR D)))", "NOT A <> (B AND (C OR D))"),
+        (
+            "A < B OR (A <= B OR A > B) AND (A >= B)",
+            "A < B OR (A <= B OR A > B) AND A >= B",
+        ),
+        ("a is null, a is not null", "A IS NULL, NOT A IS NULL"),
+        ("(A IS NULL) = (NOT NOT C)", "(A IS NULL) = (NOT NOT C)"),
+        ("t.a, \"t\".\"From\", \"A\"", "T.A, \"t\".\"From\", A"),
+        ("'it''s', TRUE, false", "'it''s', TRUE, FALSE"),
+        ("COUNT ( * ), count((a))", "COUNT(*), COUNT(A)"),
+        (
+            "SUM(- A), MIN(A), MAX(A + 1)",
+            "SUM(- A), MIN(A), MAX(A + 1)",
+        ),
+        ("A X, B AS Y, C", "A AS X, B AS Y, C"),
+    ];
+    for (text, want) in rows {
+        let text = selected(rt.alloc(), text)?;
+        let want = selected(rt.alloc(), want)?;
+        let found = printed(rt.alloc(), text.as_str())?;
+        assert_eq!(rt; found.as_str(), want.as_str());
+    }
+    Ok(())
+}
+
+#[test]
+fn what_statements_print_as(rt: HostRuntime) -> Result<(), Fail> {
+    let rows = [
+        ("select a from t;", "SELECT A FROM T"),
+        (
+            "SELECT DISTINCT * FROM S.T U",
+            "SELECT DISTINCT * FROM S.T AS U",
+        ),
+        (
+            "SELECT * FROM T AS T, U V CROSS JOIN S.W AS X",
+            "SELECT * FROM T CROSS JOIN U AS V CROSS JOIN S.W AS X",
+        ),
+        (
+            "SELECT * FROM T INNER JOIN U ON A = B JOIN V USING (A, B)",
+            "SELECT * FROM T JOIN U ON A = B JOIN V USING (A, B)",
+        ),
+        (
+            "SELECT * FROM T LEFT JOIN U ON TRUE LEFT OUTER JOIN V USING (A)",
+            "SELECT * FROM T LEFT JOIN U ON TRUE LEFT JOIN V USING (A)",
+        ),
+        (
+            "SELECT T.A FROM T WHERE A > 0 GROUP BY T.A, B HAVING COUNT(*) > 1",
+            "SELECT T.A FROM T WHERE A > 0 GROUP BY T.A, B HAVING COUNT(*) > 1",
+        ),
+        (
+            "SELECT A FROM T ORDER BY 1 DESC NULLS FIRST, T.A ASC NULLS LAST, A",
+            "SELECT A FROM T ORDER BY 1 DESC, T.A, A",
+        ),
+        (
+            "SELECT A FROM T ORDER BY A NULLS FIRST, 2 DESC NULLS LAST, A DESC",
+            "SELECT A FROM T ORDER BY A NULLS FIRST, 2 DESC NULLS LAST, A DESC",
+        ),
+        (
+            "insert into s.t values (1, -2, - 0, 'x'), (TRUE, FALSE, NULL), (3)",
+            "INSERT INTO S.T VALUES (1, - 2, 0, 'x'), (TRUE, FALSE, NULL), (3)",
+        ),
+        (
+            "EXPLAIN PLAN FOR SELECT A FROM T;",
+            "EXPLAIN PLAN FOR SELECT A FROM T",
+        ),
+        (
+            "EXPLAIN MEMO FOR SELECT A FROM T",
+            "EXPLAIN MEMO FOR SELECT A FROM T",
+        ),
+        ("refresh table s.t", "REFRESH TABLE S.T"),
+        (
+            "CREATE TILE ON S.L (A, T.B) MEASURES (COUNT(*), SUM((C)))",
+            "CREATE TILE ON S.L (A, T.B) MEASURES (COUNT(*), SUM(C))",
+        ),
+        ("DROP TILE ON L ( )", "DROP TILE ON L ()"),
+        ("CHOOSE TILES ON L LIMIT 16;", "CHOOSE TILES ON L LIMIT 16"),
+    ];
+    for (text, want) in rows {
+        let found = printed(rt.alloc(), text)?;
+        assert_eq!(rt; found.as_str(), want);
+    }
+    printed_text_spells_the_statement();
     Ok(())
 }
