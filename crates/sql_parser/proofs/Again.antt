@@ -19,6 +19,7 @@ use Rattle.sql_text.specs.declared.tree.Tree.TheViews.{out-Tree, roll-Tree, out-
 use Rattle.sql_text.specs.declared.tree.Tree.TheVariants.{Column, Literal, Negate, Binary, Not, IsNull, Aggregate, rolls-Column, rolls-Literal, rolls-Negate, rolls-Binary, rolls-Not, rolls-IsNull, rolls-Aggregate}
 use Rattle.sql_text.specs.declared.tree.ColumnName.{ColumnName}
 use Rattle.sql_text.specs.Printing.{Printed, node, printed_tree, tree_tokens, at_least, in_brackets, dotted, column_tokens, value_level, value_tokens, op_level, left_level, op_token, agg_token, binary_tokens, null_test_tokens, call_tokens}
+use Rattle.sql_text.proofs.Writes.{printed_binary}
 use Rattle.sql_text.specs.Same.{placeless_node, placeless_tree}
 use Rattle.sql_parser.specs.Operators.{aggregates}
 use Rattle.sql_parser.specs.Grammar.{is_column, of_column, column_layer, measure_layer, IsColumn, plain, qualified, IsExpr, one_conj, or_conj, IsConj, one_neg, and_neg, IsNeg, not_neg, one_pred, IsPred, one_sum, compared, is_null, is_not_null, IsSum, one_term, add_term, IsTerm, one_fact, times_fact, IsFact, minus_fact, one_prim, IsPrim, number, text, true_word, false_word, column, one_agg, bracket, IsAgg, count_all, aggregate}
@@ -40,9 +41,6 @@ printed_literal place v = ap printed_tree (sym (rolls-Literal place v)) ∙ fold
 
 pub printed_negate : (place : ℕ) (t : Tree) → printed_tree (Negate place t) ≡ (6, Symbol s.Minus ∷ at_least 6 (printed_tree t))
 printed_negate place t = ap printed_tree (sym (rolls-Negate place t)) ∙ fold-roll-Tree Printed node (Tree-F.Negate place t)
-
-pub printed_binary : (place : ℕ) (o : Op) (l r : Tree) → printed_tree (Binary place o l r) ≡ (op_level o, binary_tokens o (printed_tree l) (printed_tree r))
-printed_binary place o l r = ap printed_tree (sym (rolls-Binary place o l r)) ∙ fold-roll-Tree Printed node (Tree-F.Binary place o l r)
 
 pub printed_not : (place : ℕ) (t : Tree) → printed_tree (Not place t) ≡ (2, Word w.Not ∷ at_least 2 (printed_tree t))
 printed_not place t = ap printed_tree (sym (rolls-Not place t)) ∙ fold-roll-Tree Printed node (Tree-F.Not place t)

@@ -16,13 +16,14 @@ use Rattle.sql_text.specs.declared.tree.Tree.{Tree}
 use Rattle.sql_text.specs.declared.tree.Tree.TheVariants.{Column, Negate, Binary, Not, IsNull, Aggregate}
 use Rattle.sql_text.specs.declared.tree.ColumnName.{ColumnName}
 use Rattle.sql_text.specs.Tokens.{IsToken}
+use Rattle.sql_text.proofs.Writes.{printed_binary}
 use Rattle.sql_text.specs.Printing.{Printed, printed_tree, tree_tokens, at_least, in_brackets, column_tokens, op_level, left_level, op_token, binary_tokens, null_test_tokens, call_tokens}
 use Rattle.sql_parser.specs.Operators.{compares, adds, multiplies}
 use Rattle.sql_parser.specs.Limits.{opened, most_open, operators, is_operator_word}
 use Rattle.sql_parser.specs.Grammar.{IsColumn, plain, qualified, IsExpr, one_conj, or_conj, IsConj, one_neg, and_neg, IsNeg, not_neg, one_pred, IsPred, one_sum, compared, is_null, is_not_null, IsSum, one_term, add_term, IsTerm, one_fact, times_fact, IsFact, minus_fact, one_prim, IsPrim, number, text, true_word, false_word, column, one_agg, bracket, IsAgg, count_all, aggregate}
 use Rattle.sql_parser.proofs.Steps.{no_some, some_same}
-use Rattle.sql_parser.proofs.Room.{operators-append, most_open-low, Balanced, one-balanced, append-balanced, bracket-balanced, column-balanced, expr-balanced}
-use Rattle.sql_parser.proofs.Again.{printed_column, printed_literal, printed_negate, printed_binary, printed_not, printed_null, printed_count, printed_call, agg_word, agg_again, expr_respelled}
+use Rattle.sql_parser.proofs.Room.{operators-append, most_open-low, Balanced, none-balanced, one-balanced, append-balanced, bracket-balanced, column-balanced, expr-balanced}
+use Rattle.sql_parser.proofs.Again.{printed_column, printed_literal, printed_negate, printed_not, printed_null, printed_count, printed_call, agg_word, agg_again, expr_respelled}
 
 -- the second are no worse than the first
 pub record NoWorse (ts us : List Token) : Type 0 where
@@ -44,20 +45,16 @@ each-back : (ts us : List Token) → AllByRecursion IsToken (ts ++ us) → AllBy
 each-back [] us a = a
 each-back (t ∷ ts) us a = each-back ts us a.1
 
-empty-balanced : Balanced []
-unfolding most_open
-empty-balanced = record { whole = λ k rest. omega (arith, most_open-low k rest) }
-
 -- ---- tokens that stay, go and come
 
 pub kept : (ts : List Token) → Balanced ts → NoWorse ts ts
 kept ts b = record { fit = λ h. h; few = omega arith; deep = λ k. omega arith; before = b; behind = b }
 
 pub nothing : NoWorse [] []
-nothing = kept [] empty-balanced
+nothing = kept [] none-balanced
 
 pub token_kept : (t : Token) → ((k : ℕ) → opened k t ≡ k) → NoWorse (t ∷ []) (t ∷ [])
-token_kept t same = kept (t ∷ []) (one-balanced t [] same empty-balanced)
+token_kept t same = kept (t ∷ []) (one-balanced t [] same none-balanced)
 
 pub beside : (a b c d : List Token) → NoWorse a b → NoWorse c d → NoWorse (a ++ c) (b ++ d)
 beside a b c d x y = record {
@@ -79,14 +76,14 @@ pub left_out : (t : Token) (ts us : List Token) → ((k : ℕ) → opened k t �
 unfolding most_open
 left_out t ts us same x = beside (t ∷ []) [] ts us alone x where
   alone : NoWorse (t ∷ []) []
-  alone = record { fit = λ h. tt; few = omega arith; deep = λ k. omega arith; before = one-balanced t [] same empty-balanced; behind = empty-balanced }
+  alone = record { fit = λ h. tt; few = omega arith; deep = λ k. omega arith; before = one-balanced t [] same none-balanced; behind = none-balanced }
 
 -- a word that is no operator comes
 pub put_in : (v : Reserved) (ts us : List Token) → is_operator_word v ≡ false → NoWorse ts us → NoWorse ts (Word v ∷ us)
 unfolding most_open
 put_in v ts us e x = beside [] (Word v ∷ []) ts us alone x where
   alone : NoWorse [] (Word v ∷ [])
-  alone = record { fit = λ h. (tt, tt); few = rw e (omega arith); deep = λ k. omega arith; before = empty-balanced; behind = one-balanced (Word v) [] (λ k. refl) empty-balanced }
+  alone = record { fit = λ h. (tt, tt); few = rw e (omega arith); deep = λ k. omega arith; before = none-balanced; behind = one-balanced (Word v) [] (λ k. refl) none-balanced }
 
 -- ---- brackets
 

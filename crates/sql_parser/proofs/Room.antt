@@ -31,7 +31,7 @@ most_open-front k (t ∷ ts) us = omega (arith, most_open-front (opened k t) ts 
 pub record Balanced (ts : List Token) : Type 0 where
   pub whole : (k : ℕ) (rest : List Token) → most_open k (ts ++ rest) ≡ max (most_open k ts) (most_open k rest)
 
-none-balanced : Balanced []
+pub none-balanced : Balanced []
 unfolding most_open
 none-balanced = record { whole = λ k rest. omega (arith, most_open-low k rest) }
 
