@@ -1,14 +1,19 @@
 -- What a model file means: a model, or the first fault in the order of the fields.
 use Rattle.std.specs.Prelude.{◌≡◌, ◌≤◌, All, IfSome, ℕ, Bool, List, [], ◌∷◌, ◌++◌, length, map, if◌then◌else◌, slice_get, codes, Option, Some, None, option_and_then, unwrap_or, Result, Ok, Err, ⊤}
 use Rattle.std.specs.Fmt.{decimal}
+use Rattle.std.specs.List.{AllZip}
 use Rattle.std.specs.Str.{is_utf8}
 use Rattle.serde_json.specs.Data.{Data, Items, no_items, item}
 use Rattle.serde_json.specs.Find.{get, at}
 use Rattle.serde_json.specs.Read.{read}
 use Rattle.cal_value.specs.declared.value.Value.{Value}
 use Rattle.cal_schema.specs.declared.column.ColumnDef.{ColumnDef}
+use Rattle.cal_schema.specs.declared.table.AdapterKind.{AdapterKind}
+use Rattle.cal_schema.specs.declared.table.AdapterKind.TheVariants.{Csv, Mem}
 use Rattle.cal_schema.specs.declared.table.TableDef.{TableDef}
 use Rattle.cal_schema.specs.declared.schema.Schema.{Schema}
+use Rattle.cal_schema.specs.Fits.{IsFilledBy}
+use Rattle.cal_schema.specs.Valid.{IsHeader}
 use Rattle.model_json.specs.declared.draft.Draft.{Draft}
 use Rattle.model_json.specs.declared.draft.Drafts.{Drafts}
 use Rattle.model_json.specs.declared.model.Model.{Model}
@@ -138,6 +143,34 @@ checked d = first_walk d >>= λ drafts. Ok d
 -- the first walk finds no fault
 abbrev pub IsChecked : Data → Type 0
 IsChecked d = checked d ≡ Ok d
+
+-- the columns of a header, exactly where there is a file's name
+abbrev pub IsHeaderOf : Option (List ℕ) → Option (List ColumnDef) → Type 0
+IsHeaderOf None None = ⊤
+IsHeaderOf None (Some cs) = ⊥
+IsHeaderOf (Some name) None = ⊥
+IsHeaderOf (Some name) (Some cs) = IsHeader cs
+
+-- as many headers as names of files, each of the file in its place
+abbrev pub AreHeadersOf : List (Option (List ℕ)) → List (Option (List ColumnDef)) → Type 0
+AreHeadersOf names headers = AllZip IsHeaderOf names headers
+
+abbrev pub file_by : AdapterKind → List ℕ → Option (List ℕ)
+file_by Csv name = Some name
+file_by Mem name = None
+
+-- the name of the file that a table is read from
+abbrev pub file_of : TableDef → Option (List ℕ)
+file_of t = file_by t.adapter t.file
+
+-- rows exactly where the table is no table of a file, and they fill it
+abbrev pub IsInlineOf : TableDef → Option (List (List Value)) → Type 0
+IsInlineOf t None = t.adapter ≡ Csv
+IsInlineOf t (Some rs) = (t.adapter ≡ Mem) × IsFilledBy t rs
+
+-- as many places as tables
+abbrev pub AreInlineFilled : List TableDef → List (Option (List (List Value))) → Type 0
+AreInlineFilled tables inline = AllZip IsInlineOf tables inline
 
 -- no header has more than 32 columns
 abbrev pub AreShort : List (Option (List ColumnDef)) → Type 0
