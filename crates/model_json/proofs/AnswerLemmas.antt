@@ -1,12 +1,12 @@
 -- What an answer of a reading says of its parts.
-use Rattle.std.proofs.Common.{◌≡◌, ℕ, suc, ◌+◌, List, [], ◌∷◌, ◌++◌, length, Option, Some, None, Result, Ok, Err, ◌⊎◌, refl, ap, subst, arith, inl, inr}
+use Rattle.std.proofs.Common.{◌≡◌, ℕ, ◌+◌, List, [], ◌∷◌, ◌++◌, length, Option, Some, None, Result, Ok, Err, ◌⊎◌, refl, ap, subst, arith, inl, inr}
 use Rattle.std.proofs.lemmas.List.{length_push}
 use Rattle.serde_json.specs.Data.{Data, Items, no_items, item}
 use Rattle.serde_json.specs.Find.{get}
 use Rattle.model_json.specs.declared.fault.ModelCause.TheVariants.{Missing}
 use Rattle.model_json.specs.declared.fault.ModelFault.{ModelFault}
 use Rattle.model_json.specs.declared.fault.ModelFault.TheVariants.{BadModel}
-use Rattle.model_json.specs.Reading.{◌>>=◌, under, inside, read_at, field, optional, read_item, each_after, item_in_turn, in_turn}
+use Rattle.model_json.specs.Reading.{◌>>=◌, under, read_at, field, optional, read_item, each_after, item_in_turn, in_turn}
 use Rattle.model_json.specs.Kinds.{count}
 
 -- the first reading gave something, from which the second gave the answer

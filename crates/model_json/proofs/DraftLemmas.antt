@@ -1,10 +1,9 @@
 -- What the first walk answers: tables that are valid but for the columns of files.
-use Rattle.std.proofs.Common.{◌≡◌, ◌≢◌, ◌<◌, ◌≤◌, ◌+◌, ◌==◌, ◌&&◌, ◌||◌, ◌^◌, ◌⊎◌, ℕ, zero, suc, Bool, true, false, cond, List, [], ◌∷◌, ◌++◌, length, get_or, map, Option, Some, None, Result, Ok, Err, All, AllPairs, MatchOption, refl, sym, ap, subst, ◌∙◌, arith, inl, inr, nat_lt, nat_le, codes, if◌then◌else◌}
-use Rattle.std.specs.Prelude.{⊤}
+use Rattle.std.proofs.Common.{◌≡◌, ◌<◌, ◌≤◌, ◌+◌, ◌&&◌, ◌^◌, ℕ, suc, true, false, List, [], ◌∷◌, ◌++◌, length, get_or, Option, Some, None, Result, Ok, All, AllPairs, refl, sym, ap, subst, ◌∙◌, arith, inl, inr, nat_lt, nat_le, codes, if◌then◌else◌}
 use Rattle.std.specs.List.{list_any}
-use Rattle.std.specs.Str.{bytes_eq, chars}
+use Rattle.std.specs.Str.{chars}
 use Rattle.std.proofs.lemmas.Bool.{ltb-false, leb-true, and_parts, or_left, or_right}
-use Rattle.std.proofs.lemmas.List.{length-append, append-nil}
+use Rattle.std.proofs.lemmas.List.{length-append}
 use Rattle.std.proofs.lemmas.List.Elements.{All-nil, All-push, All-append, All-weaker}
 use Rattle.std.proofs.lemmas.List.Folds.{list_any-append}
 use Rattle.std.proofs.lemmas.List.Kept.{AllPairs-cons}
@@ -15,7 +14,6 @@ use Rattle.cal_value.specs.declared.value.Value.{Value}
 use Rattle.cal_schema.specs.declared.column.ColumnDef.{ColumnDef}
 use Rattle.cal_schema.specs.declared.table.AdapterKind.{AdapterKind}
 use Rattle.cal_schema.specs.declared.table.AdapterKind.TheVariants.{Csv, Mem}
-use Rattle.cal_schema.specs.declared.table.TableDef.{TableDef}
 use Rattle.cal_schema.specs.Lookup.{is_same_name}
 use Rattle.cal_schema.specs.Valid.{IsHeader, HaveTwoNames}
 use Rattle.cal_schema.proofs.ColumnLemmas.{past_if, into_if, none_passes, is_same}
@@ -24,12 +22,12 @@ use Rattle.model_json.specs.declared.draft.Draft.{Draft}
 use Rattle.model_json.specs.declared.draft.Drafts.{Drafts}
 use Rattle.model_json.specs.declared.fault.ModelCause.TheVariants.{BadValue, Repeated, TooMany, TextTooLong}
 use Rattle.model_json.specs.declared.fault.ModelFault.{ModelFault}
-use Rattle.model_json.specs.Reading.{◌>>=◌, bad, each, field, optional, under, in_turn}
-use Rattle.model_json.specs.Kinds.{of_kind, a_list, an_object, text, name, short, word, count}
+use Rattle.model_json.specs.Reading.{◌>>=◌, bad, each, optional, under}
+use Rattle.model_json.specs.Kinds.{of_kind, a_list, an_object, name, short, word, count}
 use Rattle.model_json.specs.Rows.{columns, rows, primary_key, keyed, keys_apart}
 use Rattle.model_json.specs.Tables.{row_limit, max_rows, most_rows, file_at, csv_operand, columns_at, rows_at, row_key, mem_operand, contents_of, operand, operand_at, is_draft_named, table_name, name_at, factory_at, draft_of, table, table_list, tables}
 use Rattle.model_json.specs.Schemas.{Seen, seen, with_name, schema_name, schema_name_at, name_added, tables_at, schema, nothing_seen, schemas, schema_tables, all_schemas, a_document, schemas_at, default_at, first_walk}
-use Rattle.model_json.proofs.AnswerLemmas.{steps, Ruled, under-is, field-is, optional-is, each-keeps, each-count, turns-keep}
+use Rattle.model_json.proofs.AnswerLemmas.{steps, under-is, field-is, optional-is, each-keeps, each-count, turns-keep}
 use Rattle.model_json.proofs.KeyLemmas.{columns-header, primary_key-is, header-keyed, HasColumns}
 use Rattle.model_json.proofs.FilledLemmas.{Fills, header-nulls, rows-typed, rows-fill}
 

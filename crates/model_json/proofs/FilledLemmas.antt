@@ -1,15 +1,15 @@
 -- The rows that stand in a model fill their table.
-use Rattle.std.proofs.Common.{◌≡◌, ◌≢◌, ◌<◌, ◌≤◌, ◌+◌, ◌==◌, ◌⊎◌, ℕ, zero, suc, ℤ, Bool, true, false, not, ◌||◌, cond, List, [], ◌∷◌, ◌++◌, length, get_or, map, slice_get, Option, Some, None, Result, Ok, Err, All, AllPairs, refl, sym, ap, subst, ◌∙◌, arith, inl, inr, nat_lt, int_le, append_assoc}
-use Rattle.std.specs.Prelude.{⊤, unwrap_or}
+use Rattle.std.proofs.Common.{◌≡◌, ◌≢◌, ◌<◌, ◌≤◌, ◌+◌, ◌==◌, ◌⊎◌, ℕ, zero, suc, ℤ, Bool, true, false, not, cond, List, [], ◌∷◌, ◌++◌, length, get_or, map, slice_get, Option, Some, None, Result, Ok, All, AllPairs, refl, sym, ap, subst, ◌∙◌, arith, inl, inr, nat_lt, int_le, append_assoc}
+use Rattle.std.specs.Prelude.{unwrap_or}
 use Rattle.std.specs.List.{list_any}
 use Rattle.std.specs.Str.{chars}
 use Rattle.std.specs.Fmt.{decimal}
-use Rattle.std.proofs.lemmas.Bool.{ltb-false, eqb-true, eqb-false, eq-eqb, ne_eqb, and_parts, or_parts, or_from, not-true}
+use Rattle.std.proofs.lemmas.Bool.{ltb-false, eqb-true, ne_eqb, and_parts, or_parts, or_from}
 use Rattle.std.proofs.lemmas.Int.{ints}
 use Rattle.std.proofs.lemmas.List.{append-nil, map_push, get_or-map, length-map}
-use Rattle.std.proofs.lemmas.List.Elements.{All-nil, All-push, All-head, All-tail, All-cons, All-from_get_or}
+use Rattle.std.proofs.lemmas.List.Elements.{All-nil, All-push, All-head, All-tail}
 use Rattle.std.proofs.lemmas.List.Quantifiers.{all_pairs_push}
-use Rattle.serde_json.specs.Data.{Num, Data, null, boolean, number, string, array, object, Items}
+use Rattle.serde_json.specs.Data.{Data, null, boolean, number, string, array, object}
 use Rattle.serde_json.specs.Find.{as_i64}
 use Rattle.cal_value.specs.Equal.{row_eq, row_eq-Decides}
 use Rattle.cal_value.specs.Interval.{Holds}
@@ -24,16 +24,15 @@ use Rattle.cal_value.specs.declared.value.Value.{Value}
 use Rattle.cal_value.specs.declared.value.Value.TheVariants.{Null, Bool as BoolValue, Int, Text}
 use Rattle.cal_schema.specs.declared.column.ColumnDef.{ColumnDef}
 use Rattle.cal_schema.specs.declared.table.TableDef.{TableDef}
-use Rattle.cal_schema.specs.Fits.{types_of, key_of, IsFilledBy}
-use Rattle.cal_schema.specs.Valid.{IsHeader}
+use Rattle.cal_schema.specs.Fits.{IsFilledBy}
 use Rattle.cal_schema.proofs.ColumnLemmas.{past_if, into_if, none_passes}
 use Rattle.model_json.specs.declared.fault.ModelCause.TheVariants.{BadValue, TooMany, NullValue, KeyTaken}
 use Rattle.model_json.specs.declared.fault.ModelFault.{ModelFault}
-use Rattle.model_json.specs.Reading.{◌>>=◌, bad, each, under}
+use Rattle.model_json.specs.Reading.{bad, each}
 use Rattle.model_json.specs.Kinds.{a_list, short, count}
 use Rattle.model_json.specs.Rows.{is_within, whole, short_cell, cell, cell_in, next_cell, cells, row_of, row, row_list, rows, is_place, keyed, keyed_column, is_null, key_values, with_key, row_key_added, keys_from, keys_apart}
 use Rattle.model_json.proofs.AnswerLemmas.{steps, under-is, each-keeps, each-count}
-use Rattle.model_json.proofs.KeyLemmas.{KeyedAt, keyed-at, length-keyed}
+use Rattle.model_json.proofs.KeyLemmas.{keyed-at, length-keyed}
 
 -- ---- one cell
 

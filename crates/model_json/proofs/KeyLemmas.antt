@@ -1,8 +1,8 @@
 -- Columns, keys, and columns with a key.
-use Rattle.std.proofs.Common.{◌≡◌, ◌≢◌, ◌<◌, ◌≤◌, ◌+◌, ◌==◌, ◌↔◌, ◌⊎◌, ℕ, zero, suc, Bool, true, false, not, ◌||◌, cond, List, [], ◌∷◌, ◌++◌, length, get_or, map, slice_get, Option, Some, None, Result, Ok, Err, All, AllPairs, Contains, position, refl, sym, ap, subst, ◌∙◌, arith, inl, inr, nat_lt, codes}
+use Rattle.std.proofs.Common.{◌≡◌, ◌≢◌, ◌<◌, ◌≤◌, ◌+◌, ◌==◌, ◌↔◌, ℕ, zero, suc, true, false, not, cond, List, [], ◌∷◌, ◌++◌, length, get_or, slice_get, Option, Some, None, Result, Ok, Err, All, AllPairs, Contains, refl, sym, ap, subst, ◌∙◌, arith, inl, inr, nat_lt, codes}
 use Rattle.std.specs.List.{list_any}
 use Rattle.std.specs.Str.{chars}
-use Rattle.std.proofs.lemmas.Bool.{ltb-false, eqb-true, eqb-false, eq-eqb, ne_eqb, not-true, true_from_ne_false}
+use Rattle.std.proofs.lemmas.Bool.{ltb-false, eqb-false, eq-eqb, ne_eqb, not-true}
 use Rattle.std.proofs.lemmas.List.{get_or_default}
 use Rattle.std.proofs.lemmas.List.Elements.{All-nil, All-cons, All-head, All-tail, All-push, All-weaker}
 use Rattle.std.proofs.lemmas.List.Folds.{list_any_none}
@@ -15,9 +15,8 @@ use Rattle.cal_schema.specs.declared.column.ColumnFault.{ColumnFault}
 use Rattle.cal_schema.specs.declared.column.ColumnFault.TheVariants.{NameTooLong, BadColumn, NoMemory as NoMemoryFor}
 use Rattle.cal_schema.specs.Column.{column_of}
 use Rattle.cal_schema.specs.Valid.{IsColumnType, IsHeader}
-use Rattle.cal_schema.proofs.ColumnLemmas.{past_if, into_if, none_passes, column_of-is, AreColumns, columns_none, columns_push, header_of_columns}
+use Rattle.cal_schema.proofs.ColumnLemmas.{past_if, none_passes, column_of-is, AreColumns, columns_none, columns_push, header_of_columns}
 use Rattle.model_json.specs.declared.fault.ModelCause.TheVariants.{BadValue, Repeated, TooMany}
-use Rattle.model_json.specs.declared.fault.ModelFault.{ModelFault}
 use Rattle.model_json.specs.Reading.{◌>>=◌, bad, each}
 use Rattle.model_json.specs.Kinds.{a_list, text, count}
 use Rattle.model_json.specs.Rows.{is_column_named, parsed, differing, column, column_list, columns, place_of, is_place, fresh_place, key_column, key, primary_key, keyed, keyed_from, keyed_column}

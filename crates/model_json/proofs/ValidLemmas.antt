@@ -1,6 +1,6 @@
 -- The model of a document is valid, and its rows fill their tables.
-use Rattle.std.proofs.Common.{◌≡◌, ◌≢◌, ◌<◌, ◌≤◌, ◌+◌, ◌^◌, ℕ, zero, suc, List, [], ◌∷◌, ◌++◌, length, map, slice_get, Option, Some, None, option_and_then, Result, Ok, Err, IfOk, All, AllPairs, refl, sym, ap, subst, ◌∙◌, arith, append_assoc, decimal, codes}
-use Rattle.std.specs.Prelude.{⊤, unwrap_or}
+use Rattle.std.proofs.Common.{◌≡◌, ◌≤◌, ℕ, suc, List, [], ◌∷◌, ◌++◌, length, map, slice_get, Option, Some, None, option_and_then, Result, Ok, Err, IfOk, IfSome, All, AllPairs, refl, sym, ap, subst, ◌∙◌, arith, append_assoc, decimal, codes}
+use Rattle.std.specs.Prelude.{unwrap_or}
 use Rattle.std.specs.List.{AllZip}
 use Rattle.std.proofs.lemmas.List.{append-nil, length_push}
 use Rattle.std.proofs.lemmas.List.Elements.{All-nil, All-cons, All-head, All-tail, All-push}
@@ -8,22 +8,19 @@ use Rattle.std.proofs.lemmas.List.Kept.{AllPairs-cons}
 use Rattle.serde_json.specs.Data.{Data}
 use Rattle.cal_value.specs.declared.value.Value.{Value}
 use Rattle.cal_schema.specs.declared.column.ColumnDef.{ColumnDef}
-use Rattle.cal_schema.specs.declared.schema.Schema.{Schema}
 use Rattle.cal_schema.specs.declared.table.AdapterKind.{AdapterKind}
-use Rattle.cal_schema.specs.declared.table.AdapterKind.TheVariants.{Csv, Mem}
+use Rattle.cal_schema.specs.declared.table.AdapterKind.TheVariants.{Csv}
 use Rattle.cal_schema.specs.declared.table.TableDef.{TableDef}
-use Rattle.cal_schema.specs.Fits.{IsFilledBy}
 use Rattle.cal_schema.specs.Valid.{IsHeader, IsValidTable, IsValidSchema, HaveTwoNames}
 use Rattle.model_json.specs.declared.draft.Draft.{Draft}
 use Rattle.model_json.specs.declared.draft.Drafts.{Drafts}
 use Rattle.model_json.specs.declared.fault.ModelFault.{ModelFault}
 use Rattle.model_json.specs.declared.model.Model.{Model}
 use Rattle.model_json.specs.Reading.{◌>>=◌, under, Gives}
-use Rattle.model_json.specs.Rows.{primary_key, keyed}
 use Rattle.model_json.specs.Schemas.{first_walk}
-use Rattle.model_json.specs.ModelOf.{operand_at, file_key, with_columns, file_key_at, file_table, table_with, header_at, whole_table, tables_after, second_walk, third_walk, inline_rows, model, resolved, resolve, if_file, file_name, files, FilesAre, IsHeaderOf, AreHeadersOf, file_by, file_of, IsInlineOf, AreInlineFilled}
-use Rattle.model_json.proofs.AnswerLemmas.{Steps, steps, under-is}
-use Rattle.model_json.proofs.DraftLemmas.{IsLimit, HasRows, IsOneOf, IsDraft, IsWhole, HaveTwo, AreDrafts, walk-drafts}
+use Rattle.model_json.specs.ModelOf.{operand_at, file_key, with_columns, file_key_at, table_with, header_at, whole_table, tables_after, second_walk, third_walk, inline_rows, model, resolved, resolve, if_file, file_name, files, FilesAre, IsHeaderOf, AreHeadersOf, file_by, file_of, IsInlineOf, AreInlineFilled, AreShort}
+use Rattle.model_json.proofs.AnswerLemmas.{steps, under-is}
+use Rattle.model_json.proofs.DraftLemmas.{IsLimit, HasRows, IsOneOf, IsDraft, IsWhole, HaveTwo, walk-drafts}
 use Rattle.model_json.proofs.FilledLemmas.{fills-table}
 use Rattle.model_json.proofs.KeyLemmas.{HasColumns, IsKeyOf, no_key, primary_key-is, header-keyed}
 
@@ -184,3 +181,104 @@ zip-files (t ∷ ts) (w ∷ ws) each =
     let here = one-file t w t.rows each.0.file each.0.inline in
     let later = zip-files ts ws each.1 in
     λ i. here i ∷ later i
+
+-- ---- the whole
+
+pub record Resolved (d : Data) (headers : List (Option (List ColumnDef))) (m : Model) : Type 0 where
+  pub drafts : Drafts
+  pub first : first_walk d ≡ Ok drafts
+  pub tables : tables_after d headers [] drafts.tables ≡ Ok m.schema.tables
+  pub inline : m.inline ≡ map inline_rows drafts.tables
+
+resolved-is : (d : Data) (headers : List (Option (List ColumnDef))) (m : Model) → resolve d headers ≡ Ok m → Resolved d headers m
+resolved-is d headers m e =
+    let walk = steps (first_walk d) (resolved d headers) m e in
+    let drafts = walk.found in
+    let all = steps (second_walk d headers drafts.tables) (λ tables. third_walk d >>= λ u. made drafts tables) m walk.then in
+    let last = steps (third_walk d) (λ u. made drafts all.found) m all.then in
+    let same : model drafts.default_schema all.found drafts.tables ≡ m = Prim.cc (last.then) in
+    record {
+      drafts = drafts;
+      first = walk.first;
+      tables = all.first ∙ ap (λ (w : Model). good w.schema.tables) same;
+      inline = sym (ap (λ (w : Model). w.inline) same);
+    }
+  where
+    good : List TableDef → Result (List TableDef) ModelFault
+    good ts = Ok ts
+
+    made : Drafts → List TableDef → Result Model ModelFault
+    made drafts tables = Ok (model drafts.default_schema tables drafts.tables)
+
+completed : (d : Data) (headers : List (Option (List ColumnDef))) (m : Model) (r : Resolved d headers m) → AllZip Completes r.drafts.tables m.schema.tables
+completed d headers m r =
+    let w = walked d headers [] r.drafts.tables m.schema.tables (walk-drafts d r.drafts r.first).drafts r.tables in
+    subst (AllZip Completes r.drafts.tables) (sym w.all_is) w.each
+
+names-are : (names : List (Option (List ℕ))) (w : Result Drafts ModelFault) (drafts : Drafts) → w ≡ Ok drafts → FilesAre names w → names ≡ map file_name drafts.tables
+names-are names (Ok ds) drafts is h = let same : ds ≡ drafts = Prim.cc in h ∙ ap (λ (w : Drafts). files w) same
+names-are names (Err fault) drafts is h = absurd h
+
+inline-is : (d : Data) (headers : List (Option (List ColumnDef))) (m : Model) → resolve d headers ≡ Ok m → AreInlineFilled m.schema.tables m.inline
+inline-is d headers m e =
+    let r = resolved-is d headers m e in
+    subst (AreInlineFilled m.schema.tables) (sym r.inline) (zip-inline r.drafts.tables m.schema.tables (completed d headers m r))
+
+files-are : (d : Data) (headers : List (Option (List ColumnDef))) (m : Model) → resolve d headers ≡ Ok m → (names : List (Option (List ℕ))) → FilesAre names (first_walk d) → names ≡ map file_of m.schema.tables
+files-are d headers m e names h =
+    let r = resolved-is d headers m e in
+    names-are names (first_walk d) r.drafts r.first h ∙ zip-files r.drafts.tables m.schema.tables (completed d headers m r)
+
+schema-valid : (d : Data) (headers : List (Option (List ColumnDef))) (m : Model) → resolve d headers ≡ Ok m → (names : List (Option (List ℕ))) → FilesAre names (first_walk d) → AreHeadersOf names headers → IsValidSchema m.schema
+schema-valid d headers m e names h given =
+    let r = resolved-is d headers m e in
+    let drafts = walk-drafts d r.drafts r.first in
+    let each = completed d headers m r in
+    let named : AreHeadersOf (map file_name r.drafts.tables) headers = subst (λ (ns : List (Option (List ℕ))). AreHeadersOf ns headers) (names-are names (first_walk d) r.drafts r.first h) given in
+    record {
+      few_tables = omega (arith, zip-length r.drafts.tables m.schema.tables each, drafts.few);
+      tables = walk-valid d headers [] headers [] r.drafts.tables m.schema.tables refl refl drafts.drafts named (All-nil IsValidTable) r.tables;
+      apart = zip-apart r.drafts.tables m.schema.tables each drafts.apart;
+    }
+
+-- the rows of the model's tables
+pub model-inline : (d : Data) (headers : List (Option (List ColumnDef))) (answer : Result Model ModelFault) → Gives (λ (m : Model). m) answer (resolve d headers) → IfOk answer (λ m. AreInlineFilled m.schema.tables m.inline)
+model-inline d headers (Ok m) e = inline-is d headers m e
+model-inline d headers (Err fault) e = tt
+
+-- the files of the model's tables
+pub model-files : (d : Data) (headers : List (Option (List ColumnDef))) (answer : Result Model ModelFault) → Gives (λ (m : Model). m) answer (resolve d headers)
+    → (names : List (Option (List ℕ))) → FilesAre names (first_walk d) → IfOk answer (λ m. names ≡ map file_of m.schema.tables)
+model-files d headers (Ok m) e = files-are d headers m e
+model-files d headers (Err fault) e = λ names h. tt
+
+-- the schema of the model
+pub model-valid : (d : Data) (headers : List (Option (List ColumnDef))) (answer : Result Model ModelFault) → Gives (λ (m : Model). m) answer (resolve d headers)
+    → (names : List (Option (List ℕ))) → FilesAre names (first_walk d) → AreHeadersOf names headers → IfOk answer (λ m. IsValidSchema m.schema)
+model-valid d headers (Ok m) e = schema-valid d headers m e
+model-valid d headers (Err fault) e = λ names h given. tt
+
+-- ---- headers, one after another
+
+pub headers-push : (names : List (Option (List ℕ))) (headers : List (Option (List ColumnDef))) (name : Option (List ℕ)) (header : Option (List ColumnDef))
+    → AreHeadersOf names headers → IsHeaderOf name header → AreHeadersOf (names ++ name ∷ []) (headers ++ header ∷ [])
+headers-push [] [] name header are is = (is, tt)
+headers-push [] (h ∷ hs) name header are is = absurd are
+headers-push (n ∷ ns) [] name header are is = absurd are
+headers-push (n ∷ ns) (h ∷ hs) name header are is = (are.0, headers-push ns hs name header are.1 is)
+
+one-short : (name : Option (List ℕ)) (header : Option (List ColumnDef)) → IsHeaderOf name header → IfSome header (λ cs. length cs ≤ 32)
+one-short name None is = tt
+one-short None (Some cs) is = absurd is
+one-short (Some name) (Some cs) is = is.few_columns
+
+pub headers-short : (names : List (Option (List ℕ))) (headers : List (Option (List ColumnDef))) → AreHeadersOf names headers → AreShort headers
+headers-short [] [] are = All-nil (λ header. IfSome header (λ cs. length cs ≤ 32))
+headers-short [] (h ∷ hs) are = absurd are
+headers-short (n ∷ ns) [] are = absurd are
+headers-short (n ∷ ns) (h ∷ hs) are = All-cons (λ header. IfSome header (λ cs. length cs ≤ 32)) h hs (one-short n h are.0) (headers-short ns hs are.1)
+
+-- ---- what the call answers
+
+pub after-walk : (d : Data) (headers : List (Option (List ColumnDef))) (drafts : Drafts) (answer : Result Model ModelFault) → first_walk d ≡ Ok drafts → Gives (λ (m : Model). m) answer (resolved d headers drafts) → Gives (λ (m : Model). m) answer (resolve d headers)
+after-walk d headers drafts answer e h = subst (λ (w : Result Drafts ModelFault). Gives (λ (m : Model). m) answer (w >>= resolved d headers)) (sym e) h

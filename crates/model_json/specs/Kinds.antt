@@ -1,7 +1,7 @@
 -- The kinds of JSON values, and texts.
-use Rattle.std.specs.Prelude.{ℕ, suc, Bool, true, false, List, length, nat_lt, if◌then◌else◌, Option, Some, None, Result, Ok, Err, ⊤}
+use Rattle.std.specs.Prelude.{ℕ, suc, List, length, nat_lt, if◌then◌else◌, Option, Some, None, Result, Ok, ⊤}
 use Rattle.std.specs.Str.{bytes_eq, chars}
-use Rattle.serde_json.specs.Data.{Data, null, boolean, number, string, array, object, Items, no_items, item}
+use Rattle.serde_json.specs.Data.{Data, Items, no_items, item}
 use Rattle.serde_json.specs.Find.{as_str, as_array, as_object}
 use Rattle.model_json.specs.declared.fault.ModelCause.TheVariants.{WrongKind, BadValue, TextTooLong}
 use Rattle.model_json.specs.declared.fault.ModelFault.{ModelFault}

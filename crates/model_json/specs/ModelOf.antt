@@ -1,5 +1,5 @@
 -- What a model file means: a model, or the first fault in the order of the fields.
-use Rattle.std.specs.Prelude.{◌≡◌, ◌≤◌, All, IfSome, ℕ, Bool, List, [], ◌∷◌, ◌++◌, length, map, if◌then◌else◌, slice_get, codes, Option, Some, None, option_and_then, unwrap_or, Result, Ok, Err, ⊤}
+use Rattle.std.specs.Prelude.{◌≡◌, ◌≤◌, All, IfSome, ℕ, List, [], ◌∷◌, ◌++◌, length, map, if◌then◌else◌, slice_get, codes, Option, Some, None, option_and_then, unwrap_or, Result, Ok, Err, ⊤}
 use Rattle.std.specs.Fmt.{decimal}
 use Rattle.std.specs.List.{AllZip}
 use Rattle.std.specs.Str.{is_utf8}
@@ -11,7 +11,6 @@ use Rattle.cal_schema.specs.declared.column.ColumnDef.{ColumnDef}
 use Rattle.cal_schema.specs.declared.table.AdapterKind.{AdapterKind}
 use Rattle.cal_schema.specs.declared.table.AdapterKind.TheVariants.{Csv, Mem}
 use Rattle.cal_schema.specs.declared.table.TableDef.{TableDef}
-use Rattle.cal_schema.specs.declared.schema.Schema.{Schema}
 use Rattle.cal_schema.specs.Fits.{IsFilledBy}
 use Rattle.cal_schema.specs.Valid.{IsHeader}
 use Rattle.model_json.specs.declared.draft.Draft.{Draft}

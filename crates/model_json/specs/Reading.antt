@@ -4,7 +4,7 @@ use Rattle.std.specs.Fmt.{decimal}
 use Rattle.serde_json.specs.Data.{Data, Items, no_items, item}
 use Rattle.serde_json.specs.Find.{get}
 use Rattle.model_json.specs.declared.fault.ModelCause.{ModelCause}
-use Rattle.model_json.specs.declared.fault.ModelCause.TheVariants.{Missing, WrongKind}
+use Rattle.model_json.specs.declared.fault.ModelCause.TheVariants.{Missing}
 use Rattle.model_json.specs.declared.fault.ModelFault.{ModelFault}
 use Rattle.model_json.specs.declared.fault.ModelFault.TheVariants.{NotJson, BadModel, NoMemory}
 

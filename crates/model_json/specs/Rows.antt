@@ -1,15 +1,14 @@
 -- The columns, rows and keys of a table.
-use Rattle.std.specs.Prelude.{ℕ, suc, ℤ, ◌+◌, ◌==◌, ◌&&◌, Bool, true, false, not, int_le, List, [], ◌∷◌, ◌++◌, length, map, nat_lt, if◌then◌else◌, slice_get, position, codes, Option, Some, None, Result, Ok, Err, ⊤}
+use Rattle.std.specs.Prelude.{ℕ, ℤ, ◌+◌, ◌==◌, ◌&&◌, Bool, true, false, not, int_le, List, [], ◌∷◌, ◌++◌, length, map, nat_lt, if◌then◌else◌, slice_get, position, codes, Option, Some, None, Result, Ok, Err, ⊤}
 use Rattle.std.specs.List.{list_any}
 use Rattle.std.specs.Str.{chars}
 use Rattle.std.specs.Fmt.{decimal}
-use Rattle.serde_json.specs.Data.{Num, Data, null, boolean, number, string, array, object, Items}
+use Rattle.serde_json.specs.Data.{Data, null, boolean, number, string, Items}
 use Rattle.serde_json.specs.Find.{as_i64}
 use Rattle.cal_value.specs.declared.interval.Interval.{Interval}
 use Rattle.cal_value.specs.declared.interval.Interval.TheVariants.{Never, Range}
 use Rattle.cal_value.specs.declared.kind.Kind.{Kind}
 use Rattle.cal_value.specs.declared.kind.Kind.TheVariants.{Boolean, Integer, Text as TextKind}
-use Rattle.cal_value.specs.declared.kind.SqlType.{SqlType}
 use Rattle.cal_value.specs.declared.value.Value.{Value}
 use Rattle.cal_value.specs.declared.value.Value.TheVariants.{Null, Bool as BoolValue, Int, Text}
 use Rattle.cal_value.specs.Equal.{row_eq}

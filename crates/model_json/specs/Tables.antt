@@ -1,14 +1,13 @@
 -- The tables of a schema.
-use Rattle.std.specs.Prelude.{ℕ, ℤ, pos, ◌==◌, ◌&&◌, ◌||◌, ◌-◌, ◌+◌, Bool, true, false, int_le, List, [], ◌∷◌, ◌++◌, length, drop, map, nat_lt, nat_le, if◌then◌else◌, codes, Option, Some, None, option_and_then, Result, Ok, Err, ⊤}
+use Rattle.std.specs.Prelude.{ℕ, ◌==◌, ◌&&◌, ◌-◌, ◌+◌, Bool, false, List, [], ◌∷◌, length, drop, nat_lt, nat_le, if◌then◌else◌, codes, Option, Some, None, Result, Ok}
 use Rattle.std.specs.List.{list_any}
 use Rattle.std.specs.Str.{bytes_eq, chars}
-use Rattle.serde_json.specs.Data.{Num, Data, Items}
+use Rattle.serde_json.specs.Data.{Data, Items}
 use Rattle.serde_json.specs.Find.{as_number, as_u64}
 use Rattle.cal_value.specs.declared.value.Value.{Value}
 use Rattle.cal_schema.specs.declared.column.ColumnDef.{ColumnDef}
 use Rattle.cal_schema.specs.declared.table.AdapterKind.{AdapterKind}
 use Rattle.cal_schema.specs.declared.table.AdapterKind.TheVariants.{Csv, Mem}
-use Rattle.cal_schema.specs.declared.table.TableDef.{TableDef}
 use Rattle.cal_schema.specs.Lookup.{is_same_name}
 use Rattle.model_json.specs.declared.draft.Contents.{Contents}
 use Rattle.model_json.specs.declared.draft.Draft.{Draft}

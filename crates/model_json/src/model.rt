@@ -2,6 +2,7 @@
 ghost use Rattle.std.specs.Prelude.{◌≡◌, ◌≢◌, ◌≤◌, ℕ, List as ListOf, Option, Ok, Err, IfOk, IfErr, length, map, option_map};
 ghost use Rattle.serde_json.specs.View.{view, items_view};
 ghost use Rattle.cal_schema.specs.declared.column.ColumnDef.{ColumnDef};
+ghost use Rattle.cal_schema.specs.Valid.{IsValidSchema};
 ghost use Rattle.model_json.specs.declared.fault.ModelFault.TheVariants as faults;
 ghost use Rattle.model_json.specs.Reading.{Gives, item_in_turn, in_turn};
 ghost use Rattle.model_json.specs.ModelOf as spec;
@@ -350,7 +351,8 @@ fn resolved(
 
 #[tactic(auto, using(crate::proofs::WalkLemmas::model_when_read))]
 /// The model of a document, given for each table that is read from a file the columns of its header, in the order of the
-/// tables. A fault is the first one of the primary keys of those tables, or of lattices.
+/// tables. A fault is the first one of the primary keys of those tables, or of lattices. Where rows stand in the model, they
+/// fill their table.
 pub fn resolve(
     alloc: Global,
     doc: &ModelDoc,
@@ -360,6 +362,11 @@ pub fn resolve(
     ensures model { Gives (λ m. m) result (spec.resolve (view doc.now.json) headers.now) }
     ensures whole { (bytes : ListOf ℕ) → spec.read_model bytes ≡ Ok (view doc.now.json) → Gives (λ m. m) result (spec.model_of bytes headers.now) }
     ensures few { IfOk result (λ m. length m.schema.tables ≤ 64) }
+
+    // The schema is valid where each header is that of the file in its place.
+    ensures valid { (names : ListOf (Option (ListOf ℕ))) → spec.FilesAre names (walk.first_walk (view doc.now.json)) → spec.AreHeadersOf names headers.now → IfOk result (λ m. IsValidSchema m.schema) }
+    ensures files { (names : ListOf (Option (ListOf ℕ))) → spec.FilesAre names (walk.first_walk (view doc.now.json)) → IfOk result (λ m. names ≡ map spec.file_of m.schema.tables) }
+    ensures inline { IfOk result (λ m. spec.AreInlineFilled m.schema.tables m.inline) }
 {
     let drafts = first_walk(alloc, &doc.json)?;
     resolved(alloc, &doc.json, headers, drafts)
