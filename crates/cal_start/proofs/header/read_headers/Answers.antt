@@ -1,0 +1,31 @@
+use Rattle.std.proofs.Common.{◌≤◌, ◌∙◌, List, Option, IfSome, length, arith}
+use Rattle.std.proofs.lemmas.List.{drop_all}
+use Rattle.std.proofs.lemmas.List.Elements.{All-push}
+use Rattle.cal_schema.specs.declared.column.ColumnDef.{ColumnDef}
+use Rattle.cal_start.proofs.HeaderLemmas.{no_memory, headers_all, more_at, stopped_at}
+use Rattle.cal_start.proofs.header.read_headers.Goals as goal
+
+pub returns-in_default-push-clause-read : goal.returns-in_default-push-clause-read
+returns-in_default-push-clause-read g c =
+    no_memory _ _ _ _ _ _ _ _ _
+    (more_at _ _ _ _ _ _ _ _ _ _ c.as_slice-source-items.result.now c.source-item.result c.loop-source.source-index c.loop-source.headers c.loop-source.left c.in-Ok-next_header.next (omega (arith, c.loop-source-test.true)) c.source-item.is c.loop-source.invariant.same c.loop-source.invariant.so_far c.in-Ok-next_header.ensures.read)
+
+pub returns-in-Err-clause-read : goal.returns-in-Err-clause-read
+returns-in-Err-clause-read g c =
+    stopped_at _ _ _ _ _ _ _ _ _ _ _ _ c.as_slice-source-items.result.now c.source-item.result c.loop-source.source-index c.loop-source.headers c.loop-source.left c.in-Err.fault (omega (arith, c.loop-source-test.true)) c.source-item.is c.loop-source.invariant.same c.loop-source.invariant.later c.loop-source.invariant.broken_later
+    c.loop-source.invariant.so_far c.in-Err.ensures.read
+
+pub loop-source-preserved : goal.loop-source-preserved
+loop-source-preserved g c = record {
+  same = c.next_header.ensures.same ∙ c.loop-source.invariant.same;
+  later = omega (arith, c.next_header.ensures.later, c.loop-source.invariant.later);
+  broken_later = omega (arith, c.next_header.ensures.broken_later, c.loop-source.invariant.broken_later);
+  short = rw c.in-Ok-push.ensures.ok (All-push (λ (header : Option (List ColumnDef)). IfSome header (λ cs. length cs ≤ 32)) _ _ c.loop-source.invariant.short c.in-Ok-next_header.ensures.few);
+  so_far =
+      rw c.in-Ok-push.ensures.ok
+      (more_at _ _ _ _ _ _ _ _ _ _ c.as_slice-source-items.result.now c.source-item.result c.loop-source.source-index c.loop-source.headers c.loop-source.left c.in-Ok-next_header.next (omega (arith, c.loop-source-test.true)) c.source-item.is c.loop-source.invariant.same c.loop-source.invariant.so_far c.in-Ok-next_header.ensures.read);
+}
+
+pub returns-clause-read : goal.returns-clause-read
+returns-clause-read g c =
+    headers_all _ _ _ _ _ _ _ _ _ _ _ (drop_all c.loop-source.source-index c.as_slice-source-items.result.now (omega (arith, c.loop-source-test.false))) c.loop-source.invariant.so_far

@@ -1,0 +1,128 @@
+ghost use Rattle.std.specs.Prelude.{◌≡◌, ◌≤◌, IfOk, IfSome, length};
+ghost use Rattle.model_json.specs.ModelOf.{AreShort, IsChecked};
+ghost use Rattle.serde_json.specs.View.{view};
+ghost use Rattle.cal_start.specs.Next.{source_name};
+ghost use Rattle.cal_start.specs.Parts.{FileSays, HeaderSays, HeadersSay};
+
+use crate::fault::{FileRead, StartFault, TableFault, TableName, csv_fault};
+use crate::name::{file_word, table_name};
+use cal_outside::{ReadAllFault, Store, read_all};
+use cal_schema::ColumnDef;
+use cal_value::{List, SqlText};
+use csv_tables::header;
+use model_json::{ModelDoc, TableSource, sources};
+use std::alloc::Global;
+
+/// The most bytes of the file of a table.
+const MOST_TABLE: u64 = 8388608;
+
+/// The most bytes of the files of all tables.
+const MOST_TABLES: u64 = 33554432;
+
+/// The columns of a table that is read from a file, and how many bytes are left for the files of later tables.
+#[derive(Debug, Drop)]
+pub(crate) struct NextHeader {
+    pub header: Option<List<ColumnDef>>,
+    pub left: u64,
+}
+
+// Reads the file of a table, with its header.
+fn read_file<S: Store>(
+    alloc: Global,
+    table: TableName,
+    file: &SqlText,
+    left: u64,
+    store: &mut S,
+    files: &mut List<FileRead>,
+) -> Result<NextHeader, StartFault>
+    ensures same { S.files store.new ≡ S.files store.old }
+    ensures later { S.faults store.old ≤ S.faults store.new }
+    ensures broken_later { S.broken store.old ≤ S.broken store.new }
+    ensures few { IfOk result (λ next. IfSome next.header (λ columns. length columns ≤ 32)) }
+    ensures read { FileSays (S.files store.old) (S.faults store.old) (S.faults store.new) (S.broken store.old) (S.broken store.new)
+        table file.now left files.old files.new result }
+{
+    let Ok(name) = file_word(alloc, file) else {
+        return Err(StartFault::NoMemory);
+    };
+    match read_all(alloc, store, name.as_str(), left.min(MOST_TABLE)) {
+        Ok(bytes) => {
+            let left = left - bytes.len() as u64;
+            let read = header(alloc, bytes.as_slice());
+            let Ok(()) = files.push(FileRead { name, bytes }) else {
+                return Err(StartFault::NoMemory);
+            };
+            match read {
+                Ok(columns) => Ok(NextHeader {
+                    header: Some(columns),
+                    left,
+                }),
+                Err(fault) => Err(csv_fault(table, fault)),
+            }
+        }
+        Err(ReadAllFault::TooBig { limit }) => Err(StartFault::Table {
+            table,
+            fault: TableFault::TooBig { limit },
+        }),
+        Err(ReadAllFault::ReadFault) => Err(StartFault::ReadFault),
+        Err(ReadAllFault::NoMemory) => Err(StartFault::NoMemory),
+    }
+}
+
+// The header of a table, where it has a file.
+fn next_header<S: Store>(
+    alloc: Global,
+    source: &TableSource,
+    left: u64,
+    store: &mut S,
+    files: &mut List<FileRead>,
+) -> Result<NextHeader, StartFault>
+    ensures same { S.files store.new ≡ S.files store.old }
+    ensures later { S.faults store.old ≤ S.faults store.new }
+    ensures broken_later { S.broken store.old ≤ S.broken store.new }
+    ensures few { IfOk result (λ next. IfSome next.header (λ columns. length columns ≤ 32)) }
+    ensures read { HeaderSays (S.files store.old) (S.faults store.old) (S.faults store.new) (S.broken store.old) (S.broken store.new)
+        (source_name source.now) source.now.file left files.old files.new result }
+{
+    match &source.file {
+        None => Ok(NextHeader { header: None, left }),
+        Some(file) => match table_name(alloc, &source.schema, &source.name) {
+            Ok(table) => read_file(alloc, table, file, left, store, files),
+            Err(_) => Err(StartFault::NoMemory),
+        },
+    }
+}
+
+/// Reads the files of the tables in order, each with its header.
+pub(crate) fn read_headers<S: Store>(
+    alloc: Global,
+    doc: &ModelDoc,
+    store: &mut S,
+    files: &mut List<FileRead>,
+) -> Result<List<Option<List<ColumnDef>>>, StartFault>
+    requires { IsChecked (view doc.now.json) }
+    ensures same { S.files store.new ≡ S.files store.old }
+    ensures later { S.faults store.old ≤ S.faults store.new }
+    ensures broken_later { S.broken store.old ≤ S.broken store.new }
+    ensures short { IfOk result AreShort }
+    ensures read { HeadersSay (S.files store.old) (S.faults store.old) (S.faults store.new) (S.broken store.old) (S.broken store.new)
+        (view doc.now.json) files.old files.new result }
+{
+    let Ok(tables) = sources(alloc, doc) else {
+        return Err(StartFault::NoMemory);
+    };
+    let mut headers = List::new(alloc);
+    let mut left = MOST_TABLES;
+    for source in tables.as_slice() {
+        match next_header(alloc, source, left, store, files) {
+            Ok(next) => {
+                left = next.left;
+                let Ok(()) = headers.push(next.header) else {
+                    return Err(StartFault::NoMemory);
+                };
+            }
+            Err(fault) => return Err(fault),
+        }
+    }
+    Ok(headers)
+}

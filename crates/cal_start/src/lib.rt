@@ -1,0 +1,11 @@
+//! The start of a run: the model, the files of its tables, and what they hold.
+#![tactic(auto)]
+
+mod fault;
+mod header;
+mod name;
+mod rows;
+mod run;
+
+pub use fault::{FileRead, StartFault, TableFault, TableName};
+pub use run::{StartRecord, Started, start};
