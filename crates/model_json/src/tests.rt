@@ -52,16 +52,20 @@ fn model(alloc: Global, text: &str) -> Result<Result<Model, ModelFault>, Fail> {
     Ok(resolve(alloc, &doc, &headers))
 }
 
-fn has_fault(alloc: Global, text: &str, path: &str, cause: ModelCause) -> Result<bool, Fail> {
-    match model(alloc, text)? {
+fn is_fault_at<T: Drop>(answer: Result<T, ModelFault>, path: &str, cause: ModelCause) -> bool {
+    match answer {
         Err(
             ModelFault::BadModel {
                 path: found,
                 cause: why,
             },
-        ) => Ok(found.as_slice() == path.as_bytes() && why == cause),
-        _ => Ok(false),
+        ) => found.as_slice() == path.as_bytes() && why == cause,
+        _ => false,
     }
+}
+
+fn has_fault(alloc: Global, text: &str, path: &str, cause: ModelCause) -> Result<bool, Fail> {
+    Ok(is_fault_at(model(alloc, text)?, path, cause))
 }
 
 #[test]
@@ -604,5 +608,58 @@ fn columns_and_rows_of_a_model(rt: HostRuntime) -> Result<(), Fail> {
     };
     assert!(rt; has_row(alloc, first, -9223372036854775808, Value::Null, "ß")?);
     assert!(rt; has_row(alloc, second, 9223372036854775807, Value::Bool(true), "")?);
+    Ok(())
+}
+
+// So many letters between two texts.
+fn letters_between(
+    alloc: Global,
+    before: &str,
+    count: usize,
+    after: &str,
+) -> Result<Vec<u8>, Fail> {
+    let mut bytes = before.as_bytes().to_vec(alloc)?;
+    for _ in 0..count {
+        bytes.push(b'a')?;
+    }
+    bytes.extend_from_slice(after.as_bytes())?;
+    Ok(bytes)
+}
+
+fn schema_of_name(alloc: Global, count: usize) -> Result<Result<(), ModelFault>, Fail> {
+    let bytes = letters_between(alloc, r#"{"schemas":[{"name":""#, count, r#""}]}"#)?;
+    Ok(read_model(alloc, bytes.as_slice()).map(|_| ()))
+}
+
+fn version_of_text(alloc: Global, count: usize) -> Result<Result<(), ModelFault>, Fail> {
+    let bytes = letters_between(alloc, r#"{"schemas":[],"version":""#, count, r#""}"#)?;
+    Ok(read_model(alloc, bytes.as_slice()).map(|_| ()))
+}
+
+#[test]
+fn names_and_texts_at_their_limits(rt: HostRuntime) -> Result<(), Fail> {
+    let alloc = rt.alloc();
+    assert!(rt; schema_of_name(alloc, 128)?.is_ok());
+    assert!(rt;
+        is_fault_at(
+            schema_of_name(alloc, 129)?,
+            "/schemas/0/name",
+            ModelCause::TextTooLong
+        )
+    );
+    assert!(rt;
+        is_fault_at(
+            version_of_text(alloc, 4000)?,
+            "/version",
+            ModelCause::BadValue
+        )
+    );
+    assert!(rt;
+        is_fault_at(
+            version_of_text(alloc, 4001)?,
+            "/version",
+            ModelCause::TextTooLong
+        )
+    );
     Ok(())
 }
