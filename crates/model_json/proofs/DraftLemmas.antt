@@ -28,8 +28,8 @@ use Rattle.model_json.specs.Rows.{columns, rows, primary_key, keyed, keys_apart}
 use Rattle.model_json.specs.Tables.{row_limit, max_rows, most_rows, file_at, csv_operand, columns_at, rows_at, row_key, mem_operand, contents_of, operand, operand_at, is_draft_named, table_name, name_at, factory_at, draft_of, table, table_list, tables}
 use Rattle.model_json.specs.Schemas.{Seen, seen, with_name, schema_name, schema_name_at, name_added, tables_at, schema, nothing_seen, schemas, schema_tables, all_schemas, a_document, schemas_at, default_at, first_walk}
 use Rattle.model_json.proofs.AnswerLemmas.{steps, under-is, field-is, optional-is, each-keeps, each-count, turns-keep}
-use Rattle.model_json.proofs.KeyLemmas.{columns-header, primary_key-is, header-keyed, HasColumns}
-use Rattle.model_json.proofs.FilledLemmas.{Fills, header-nulls, rows-typed, rows-fill}
+use Rattle.model_json.proofs.KeyLemmas.{columns-header, primary_key-is, header-keyed, HasColumns, IsKeyOf}
+use Rattle.model_json.proofs.FilledLemmas.{Fills, AreRowsOf, header-nulls, rows-typed, rows-fill}
 
 -- ---- names and limits
 
@@ -94,33 +94,33 @@ mem_contents most cs rs ks = record { file = []; max_rows = most; columns = keye
 abbrev mem_made : ℕ → List ColumnDef → List (List Value) → List ℕ → Result Contents ModelFault
 mem_made most cs rs ks = Ok (mem_contents most cs rs ks)
 
+mem-is : (most : ℕ) (cs : List ColumnDef) (rs : List (List Value)) (ks : List ℕ) (c : Contents) → IsLimit most → IsHeader cs → IsKeyOf cs ks → AreRowsOf cs most rs → keys_apart ks rs ≡ Ok tt → mem_contents most cs rs ks ≡ c → IsContents Mem c
+mem-is most cs rs ks c limit header key typed apart same = subst (IsContents Mem) same (record {
+  limit = limit;
+  rows = record { in_model = refl; valid = header-keyed cs ks header key; filled = rows-fill cs ks most rs typed apart };
+})
+
 mem-contents : (d : Data) (c : Contents) → mem_operand d ≡ Ok c → IsContents Mem c
 mem-contents d c e =
     let most = steps (most_rows d) (λ n. columns_at d >>= λ cs. rows_at cs n d >>= λ rs. row_key cs rs d >>= λ ks. mem_made n cs rs ks) c e in
     let n = most.found in
-    let columns = steps (columns_at d) (λ cs. rows_at cs n d >>= λ rs. row_key cs rs d >>= λ ks. mem_made n cs rs ks) c most.then in
-    let cs = columns.found in
-    let rows' = steps (rows_at cs n d) (λ rs. row_key cs rs d >>= λ ks. mem_made n cs rs ks) c columns.then in
-    let rs = rows'.found in
-    let key = steps (row_key cs rs d) (λ ks. mem_made n cs rs ks) c rows'.then in
-    let ks = key.found in
-    let same : mem_contents n cs rs ks ≡ c = Prim.cc (key.then) in
-    let listed = field-is (codes "columns") Rattle.model_json.specs.Rows.columns cs d columns.first in
-    let header : IsHeader cs = columns-header listed.value cs listed.is in
-    let stand = field-is (codes "rows") (rows cs n) rs d rows'.first in
-    let typed = rows-typed cs n (header-nulls cs header.nullable) stand.value rs stand.is in
-    let keys = row-key cs rs d ks key.first in
-    subst (IsContents Mem) same (record {
-      limit = most-limit d n most.first;
-      rows = record { in_model = refl; valid = header-keyed cs ks header (primary_key-is cs d ks keys.0); filled = rows-fill cs ks n rs typed keys.1 };
-    })
+    let listed = steps (columns_at d) (λ cs. rows_at cs n d >>= λ rs. row_key cs rs d >>= λ ks. mem_made n cs rs ks) c most.then in
+    let cs = listed.found in
+    let standing = steps (rows_at cs n d) (λ rs. row_key cs rs d >>= λ ks. mem_made n cs rs ks) c listed.then in
+    let rs = standing.found in
+    let keyed_by = steps (row_key cs rs d) (λ ks. mem_made n cs rs ks) c standing.then in
+    let ks = keyed_by.found in
+    let names = field-is (codes "columns") columns cs d listed.first in
+    let header : IsHeader cs = columns-header names.value cs names.is in
+    let cells = field-is (codes "rows") (rows cs n) rs d standing.first in
+    let key = row-key cs rs d ks keyed_by.first in
+    mem-is n cs rs ks c (most-limit d n most.first) header (primary_key-is cs d ks key.0) (rows-typed cs n (header-nulls cs header.nullable) cells.value rs cells.is) key.1 (Prim.cc (keyed_by.then))
   where
     row-key : (cs : List ColumnDef) (rs : List (List Value)) (d : Data) (ks : List ℕ) → row_key cs rs d ≡ Ok ks → (primary_key cs d ≡ Ok ks) × (keys_apart ks rs ≡ Ok tt)
     row-key cs rs d ks e =
         let key = steps (primary_key cs d) (λ k. under (codes "rows") (keys_apart k rs) >>= λ u. Ok k) ks e in
         let apart = steps (under (codes "rows") (keys_apart key.found rs)) (λ u. Ok key.found) ks key.then in
         let same : key.found ≡ ks = Prim.cc (apart.then) in
-        let unit : apart.found ≡ tt = refl in
         let judged : keys_apart key.found rs ≡ Ok tt = under-is (codes "rows") (keys_apart key.found rs) apart.found apart.first in
         (key.first ∙ ap (λ (k : List ℕ). Ok k) same, subst (λ (k : List ℕ). keys_apart k rs ≡ Ok tt) same judged)
 
@@ -148,6 +148,11 @@ named before d s e =
     let same : chars read.found ≡ s = Prim.cc (free.1) in
     (subst (λ (u : List ℕ). length u ≤ 128) same (name-short d read.found read.first), subst (λ (u : List ℕ). list_any (is_draft_named u) before ≡ false) same free.0)
 
+next-is : (schema_at : ℕ) (schema : List ℕ) (before : List Draft) (n : List ℕ) (a : AdapterKind) (c : Contents) (t : Draft) → length n ≤ 128 → list_any (is_draft_named n) before ≡ false → IsContents a c
+    → draft_of schema_at schema (length before) n a c ≡ t → IsNext schema before t
+next-is schema_at schema before n a c t short free is same =
+    subst (IsNext schema before) same (record { draft = record { name_short = short; limit = is.limit; rows = is.rows }; of_schema = refl; fresh = free })
+
 table-next : (schema_at : ℕ) (schema : List ℕ) (before : List Draft) (d : Data) (t : Draft) → table schema_at schema before d ≡ Ok t → IsNext schema before t
 table-next schema_at schema before d t e =
     let object = steps (an_object d) (λ o. name_at before o >>= λ n. optional (codes "type") tt (word (codes "custom")) o >>= λ u. factory_at o >>= λ a. operand_at a o >>= λ c. made n a c) t e in
@@ -159,13 +164,11 @@ table-next schema_at schema before d t e =
     let a = factory.found in
     let contents = steps (operand_at a o) (λ c. made n a c) t factory.then in
     let c = contents.found in
-    let same : draft_of schema_at schema (length before) n a c ≡ t = Prim.cc (contents.then) in
-    let named' = field-is (codes "name") (table_name before) n o name'.first in
-    let name-is = named before named'.value n named'.is in
+    let called = field-is (codes "name") (table_name before) n o name'.first in
+    let new = named before called.value n called.is in
     let ruled = field-is (codes "operand") (operand a) c o contents.first in
     let shown = steps (an_object ruled.value) (contents_of a) c ruled.is in
-    let is = contents-is a shown.found c shown.then in
-    subst (IsNext schema before) same (record { draft = record { name_short = name-is.0; limit = is.limit; rows = is.rows }; of_schema = refl; fresh = name-is.1 })
+    next-is schema_at schema before n a c t new.0 new.1 (contents-is a shown.found c shown.then) (Prim.cc (contents.then))
   where
     made : List ℕ → AdapterKind → Contents → Result Draft ModelFault
     made n a c = Ok (draft_of schema_at schema (length before) n a c)
@@ -278,6 +281,9 @@ name-new before names s e =
     let free = past_if (list_any (is_same_name s) before) (bad Repeated) (Ok (before ++ s ∷ [])) (Ok names) (λ f. Prim.cc) (under-is (codes "name") (with_name before s) names e) in
     (free.0, Prim.cc (free.1))
 
+seen-is : (names more : List (List ℕ)) (ts : List Draft) (next : Seen) → names ≡ more → seen more ts ≡ next → AreSeen (seen names ts) → AreSeen next
+seen-is names more ts next same is are = subst AreSeen (ap (λ (u : List (List ℕ)). seen u ts) same ∙ is) are
+
 schema-seen : (number : ℕ) (before : Seen) (d : Data) (next : Seen) → AreSeen before → schema number before d ≡ Ok next → AreSeen next
 schema-seen number before d next are e =
     let object = steps (an_object d) (λ o. schema_name_at o >>= λ s. name_added before.names s >>= λ names. optional (codes "type") tt (word (codes "map")) o >>= λ u. tables_at number s (length before.tables) o >>= λ ts. made names ts) next e in
@@ -289,8 +295,7 @@ schema-seen number before d next are e =
     let listed = steps (tables_at number s (length before.tables) o) (λ ts. made added.found ts) next typed.then in
     let ts = listed.found in
     let new = name-new before.names added.found s added.first in
-    let same : seen added.found (before.tables ++ ts) ≡ next = Prim.cc (listed.then) in
-    subst AreSeen (ap (λ (names : List (List ℕ)). seen names (before.tables ++ ts)) new.1 ∙ same)
+    seen-is (before.names ++ s ∷ []) added.found (before.tables ++ ts) next new.1 (Prim.cc (listed.then))
     (seen-more before s ts are (schema-named o s called.first) new.0 (tables_at-are number s (length before.tables) o ts are.few listed.first))
   where
     made : List (List ℕ) → List Draft → Result Seen ModelFault
@@ -309,6 +314,9 @@ schemas-drafts ds ts e =
     let same : (s.found).tables ≡ ts = Prim.cc (s.then) in
     subst AreDrafts same (record { drafts = are.drafts; few = are.few; apart = are.apart })
 
+drafts-are : (whole drafts : Drafts) → whole ≡ drafts → AreDrafts whole.tables → AreDrafts drafts.tables
+drafts-are whole drafts same are = subst AreDrafts (ap (λ (w : Drafts). w.tables) same) are
+
 pub walk-drafts : (d : Data) (drafts : Drafts) → first_walk d ≡ Ok drafts → AreDrafts drafts.tables
 walk-drafts d drafts e =
     let root = steps (a_document d) (λ r. optional (codes "version") tt (word (codes "1.0")) r >>= λ u. schemas_at r >>= λ ds. default_at ds r >>= λ default. all_schemas ds >>= λ ts. made default ts) drafts e in
@@ -318,9 +326,7 @@ walk-drafts d drafts e =
     let ds = listed.found in
     let default = steps (default_at ds r) (λ o. all_schemas ds >>= λ ts. made o ts) drafts listed.then in
     let all = steps (all_schemas ds) (λ ts. made default.found ts) drafts default.then in
-    let whole : Drafts = record { default_schema = default.found; tables = all.found } in
-    let same : whole ≡ drafts = Prim.cc (all.then) in
-    subst AreDrafts (ap (λ (w : Drafts). w.tables) same) (schemas-drafts ds all.found all.first)
+    drafts-are (record { default_schema = default.found; tables = all.found }) drafts (Prim.cc (all.then)) (schemas-drafts ds all.found all.first)
   where
     made : Option (List ℕ) → List Draft → Result Drafts ModelFault
     made default ts = Ok (record { default_schema = default; tables = ts })
