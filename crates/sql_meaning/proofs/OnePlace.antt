@@ -1,11 +1,11 @@
 -- The place of a column among those of one entry of FROM.
-use Rattle.std.proofs.Common.{◌≡◌, ◌<◌, ℕ, Bool, true, false, cond, refl, ap, ◌∙◌, List, [], ◌∷◌, length, Option, Some, None, option_map, unwrap_or, IfSome}
+use Rattle.std.proofs.Common.{◌≡◌, ◌<◌, ℕ, Bool, true, false, cond, refl, ap, append-nil, ◌∙◌, List, [], ◌∷◌, length, map, Option, Some, None, option_map, unwrap_or, IfSome}
 use Rattle.std.specs.Prelude.{position}
 use Rattle.std.proofs.lemmas.List.Quantifiers.{position-Some}
 use Rattle.cal_schema.specs.declared.column.ColumnDef.{ColumnDef}
 use Rattle.cal_schema.specs.Lookup.{is_same_name}
 use Rattle.sql_text.specs.declared.tree.ColumnName.{ColumnName}
-use Rattle.sql_meaning.specs.Scope.{single, place_of}
+use Rattle.sql_meaning.specs.Scope.{single, place_of, types_in}
 
 same_or_none : (o : Option ℕ) → unwrap_or (option_map Some o) None ≡ o
 same_or_none None = refl
@@ -32,5 +32,8 @@ position-within p xs = by (position p xs) refl
     by : (o : Option ℕ) → position p xs ≡ o → IfSome o (λ at. at < length xs)
     by None e = tt
     by (Some at) e = position-below p xs at e
+
+pub types-single : (alias : List ℕ) (columns : List ColumnDef) → types_in (single alias columns) ≡ map (λ c. c.kind) columns
+types-single alias columns = append-nil (map (λ c. c.kind) columns)
 
 pub ruleset place_rules = (place-searched, place-elsewhere, position-within)

@@ -1,5 +1,5 @@
 -- Places of columns among those of all entries.
-use Rattle.std.proofs.Common.{◌≡◌, ◌<◌, ◌+◌, ◌∙◌, ap, refl, append-nil, length-append, ℕ, Bool, true, false, cond, arith, List, [], ◌∷◌, ◌++◌, length, map, Option, Some, None, option_map, unwrap_or}
+use Rattle.std.proofs.Common.{◌≡◌, ◌<◌, ◌+◌, ◌∙◌, ap, refl, length-append, ℕ, Bool, true, false, cond, arith, List, [], ◌∷◌, ◌++◌, length, map, Option, Some, None, option_map, unwrap_or}
 use Rattle.std.specs.Prelude.{position}
 use Rattle.std.proofs.lemmas.List.{length-map}
 use Rattle.std.specs.List.{flat_map}
@@ -7,10 +7,7 @@ use Rattle.cal_schema.specs.declared.column.ColumnDef.{ColumnDef}
 use Rattle.cal_schema.specs.Lookup.{is_same_name}
 use Rattle.sql_text.specs.declared.tree.ColumnName.{ColumnName}
 use Rattle.sql_meaning.specs.Scope.{Header, single, is_searched, place_in, place_of, types_in}
-use Rattle.sql_meaning.proofs.OnePlace.{position-below}
-
-pub types-single : (alias : List ℕ) (columns : List ColumnDef) → types_in (single alias columns) ≡ map (λ c. c.kind) columns
-types-single alias columns = append-nil (map (λ c. c.kind) columns)
+use Rattle.sql_meaning.proofs.OnePlace.{position-below, types-single}
 
 pub length-single : (alias : List ℕ) (columns : List ColumnDef) → length (types_in (single alias columns)) ≡ length columns
 length-single alias columns = ap length (types-single alias columns) ∙ length-map columns (λ c. c.kind)

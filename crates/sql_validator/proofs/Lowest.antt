@@ -1,0 +1,83 @@
+-- The lowest place of what stands in parts.
+use Rattle.std.proofs.Common.{◌≡◌, ◌∙◌, ap, sym, refl, arith, ◌<◌, ◌+◌, length, take, get_or, ℕ, Bool, true, false, cond, List, [], ◌∷◌, ◌++◌, Option, Some, None}
+use Rattle.std.specs.Prelude.{nat_lt}
+use Rattle.std.proofs.lemmas.Bool.Decides.{nat_tests}
+use Rattle.cal_value.specs.declared.operator.Op.{Op}
+use Rattle.cal_value.specs.declared.operator.Op.TheVariants.{Add, Subtract, Multiply, Divide, Equal, NotEqual, Less, LessEqual, Greater, GreaterEqual, And, Or}
+use Rattle.cal_value.specs.declared.kind.Kind.{Kind}
+use Rattle.sql_text.specs.declared.select.Item.{Item}
+use Rattle.sql_text.specs.declared.tree.Tree.{Tree}
+use Rattle.sql_text.specs.declared.tree.Tree.TheFolds.{fold-roll-Tree, map-Tree}
+use Rattle.sql_text.specs.declared.tree.Tree.TheOpen.{Tree-F}
+use Rattle.sql_text.specs.declared.tree.Tree.TheVariants.{Binary, rolls-Binary}
+use Rattle.sql_meaning.specs.Kinds.{Kinded, kinded, kinded_step, clashes, op_kind, op_clash}
+use Rattle.sql_meaning.specs.Scope.{Header}
+use Rattle.sql_validator.specs.declared.kinds.Judged.{Judged}
+use Rattle.sql_validator.proofs.Parts.{parts, parts-next}
+use Rattle.sql_meaning.specs.Refused.{lower, lowest}
+use Rattle.sql_validator.specs.Walks.{lower_of, judged_of, bare}
+
+abbrev least : ℕ → ℕ → ℕ
+least a b = cond (nat_lt b a) b a
+
+least_assoc : (a b c : ℕ) → least a (least b c) ≡ least (least a b) c
+least_assoc a b c = grind (arith, nat_tests)
+
+lower_assoc : (a : ℕ) (o p : Option ℕ) → lower a (lower_of o p) ≡ lower_of (lower a o) p
+lower_assoc a None p = refl
+lower_assoc a (Some b) None = refl
+lower_assoc a (Some b) (Some c) = ap Some (least_assoc a b c)
+
+pub lowest-append : (xs ys : List ℕ) → lowest (xs ++ ys) ≡ lower_of (lowest xs) (lowest ys)
+lowest-append [] ys = refl
+lowest-append (x ∷ xs) ys = ap (lower x) (lowest-append xs ys) ∙ lower_assoc x (lowest xs) (lowest ys)
+
+pub op_clash-bare : (place : ℕ) (op : Op) (a b : Kinded) → op_clash place op (bare (judged_of a)) (bare (judged_of b)) ≡ op_clash place op a b
+op_clash-bare place Add a b = refl
+op_clash-bare place Subtract a b = refl
+op_clash-bare place Multiply a b = refl
+op_clash-bare place Divide a b = refl
+op_clash-bare place Equal a b = refl
+op_clash-bare place NotEqual a b = refl
+op_clash-bare place Less a b = refl
+op_clash-bare place LessEqual a b = refl
+op_clash-bare place Greater a b = refl
+op_clash-bare place GreaterEqual a b = refl
+op_clash-bare place And a b = refl
+op_clash-bare place Or a b = refl
+
+pub lowest-next : (f : Tree → List ℕ) (items : List Item) (i : ℕ) (item : Item) → item ≡ get_or items i item → i < length items
+    → lowest (parts f (take (i + 1) items)) ≡ lower_of (lowest (parts f (take i items))) (lowest (f item.tree))
+lowest-next f items i item is lt = ap lowest (parts-next f items i item is lt) ∙ lowest-append (parts f (take i items)) (f item.tree)
+
+-- of a loop over the items: what was found, and what the walk over the item's tree tells
+pub lowest-turn : (scope : List Header) (items : List Item) (i : ℕ) (item : Item) (tree : Tree) (j : Judged) (found new : Option ℕ) → item ≡ get_or items i item → i < length items → tree ≡ item.tree
+    → found ≡ lowest (parts (clashes scope) (take i items)) → j ≡ judged_of (kinded scope tree) → new ≡ lower_of found j.clash → new ≡ lowest (parts (clashes scope) (take (i + 1) items))
+lowest-turn scope items i item tree j found new is lt et ef ej en =
+    en
+    ∙ ap (λ o. lower_of o j.clash) ef
+    ∙ ap (λ (x : Judged). lower_of (lowest (parts (clashes scope) (take i items))) x.clash) (ej ∙ ap (λ t. judged_of (kinded scope t)) et)
+    ∙ sym (lowest-next (clashes scope) items i item is lt)
+
+-- ---- the kinds of an operator's operands
+
+pub kinded-Binary : (scope : List Header) (place : ℕ) (op : Op) (l r : Tree) → kinded scope (Binary place op l r) ≡ kinded_step scope (Tree-F.Binary place op (kinded scope l) (kinded scope r))
+kinded-Binary scope place op l r = ap (kinded scope) (sym (rolls-Binary place op l r)) ∙ fold-roll-Tree Kinded (kinded_step scope) (Tree-F.Binary place op l r)
+
+abbrev made : ℕ → Kind → Option ℕ → Judged
+made place kind clash = record { kind = kind; place = place; clash = clash }
+
+pub judged-Binary : (scope : List Header) (place : ℕ) (op : Op) (l r : Tree) (a b : Judged) (kind : Kind) (own first clash : Option ℕ)
+    → a ≡ judged_of (kinded scope l) → b ≡ judged_of (kinded scope r) → kind ≡ op_kind op → own ≡ lowest (op_clash place op (bare a) (bare b)) → first ≡ lower_of a.clash own → clash ≡ lower_of first b.clash
+    → made place kind clash ≡ judged_of (kinded scope (Binary place op l r))
+judged-Binary scope place op l r a b kind own first clash ea eb ek eo ef ec =
+    ap (λ k. made place k clash) ek
+    ∙ ap (made place (op_kind op)) (ec ∙ ap (λ x. lower_of x b.clash) (ef ∙ ap (lower_of a.clash) eo)
+    ∙ ap (λ (x : Judged). lower_of (lower_of x.clash (lowest (op_clash place op (bare x) (bare b)))) b.clash) ea
+    ∙ ap (λ (x : Judged). lower_of (lower_of (lowest (kinded scope l).clashes) (lowest (op_clash place op (bare (judged_of (kinded scope l))) (bare x)))) x.clash) eb
+    ∙ ap (λ (x : List ℕ). lower_of (lower_of (lowest (kinded scope l).clashes) (lowest x)) (lowest (kinded scope r).clashes)) (op_clash-bare place op (kinded scope l) (kinded scope r))
+    ∙ ap (λ x. lower_of x (lowest (kinded scope r).clashes)) (sym (lowest-append (kinded scope l).clashes (op_clash place op (kinded scope l) (kinded scope r))))
+    ∙ sym (lowest-append ((kinded scope l).clashes ++ op_clash place op (kinded scope l) (kinded scope r)) (kinded scope r).clashes))
+    ∙ ap judged_of (sym (kinded-Binary scope place op l r))
+
+pub ruleset lowest_rules = (lowest-append, op_clash-bare)

@@ -1,0 +1,15 @@
+//! Why a SELECT over one entry of FROM is refused, and what an accepted one has.
+#![tactic(auto)]
+
+mod checked;
+mod columns;
+mod kinds;
+mod known;
+mod names;
+mod plain;
+mod sizes;
+mod validator;
+
+pub use checked::CheckedSelect;
+pub use plain::{is_plain, only_entry};
+pub use validator::validate;

@@ -1,0 +1,89 @@
+//! The names of the columns of an answer.
+ghost use Rattle.std.specs.Prelude.{◌≡◌, map, IfOk};
+ghost use Rattle.sql_text.specs.declared.tree.Tree.TheViews.{out-Tree};
+ghost use Rattle.sql_meaning.specs.Names as spec;
+ghost use Rattle.sql_meaning.specs.Scope.{single};
+
+use cal_schema::ColumnDef;
+use cal_value::{Duplicate, List, NoMemory, SqlText};
+use itoa::Buffer;
+use sql_text::{Item, Items, Tree};
+use std::alloc::Global;
+
+fn made_bytes(alloc: Global, place: usize) -> Result<Vec<u8>, NoMemory>
+    ensures { IfOk result (λ name. name.items ≡ spec.made_name place) }
+{
+    let mut buffer = Buffer::new();
+    let mut name = Vec::from_slice(alloc, b"EXPR$")?;
+    name.extend_from_slice(buffer.format(place).as_bytes())?;
+    Ok(name)
+}
+
+#[tactic(auto, using(crate::proofs::Named::name_rules))]
+fn made_name(alloc: Global, place: usize) -> Result<SqlText, NoMemory>
+    ensures { IfOk result (λ name. name ≡ spec.made_name place) }
+{
+    let bytes = made_bytes(alloc, place)?;
+    let characters: Vec<char> = bytes
+        .as_slice()
+        .iter()
+        .map(|byte| char::from(*byte))
+        .collect(alloc)?;
+    Ok(SqlText::from_characters(characters))
+}
+
+fn name_of_tree(alloc: Global, place: usize, tree: &Tree) -> Result<SqlText, NoMemory>
+    ensures { IfOk result (λ name. name ≡ spec.name_of_node place (out-Tree tree.now)) }
+{
+    match tree {
+        Tree::Column { name, .. } => name.name.copy(alloc),
+        _ => made_name(alloc, place),
+    }
+}
+
+fn item_name(alloc: Global, place: usize, item: &Item) -> Result<SqlText, NoMemory>
+    ensures { IfOk result (λ name. name ≡ spec.item_name place item.now) }
+{
+    match &item.alias {
+        Some(alias) => alias.copy(alloc),
+        None => name_of_tree(alloc, place, &item.tree),
+    }
+}
+
+fn item_names(alloc: Global, items: &[Item]) -> Result<List<SqlText>, NoMemory>
+    ensures { IfOk result (λ names. names ≡ spec.item_names 0 items.now) }
+{
+    let mut names = List::new(alloc);
+    for (place, item) in items.iter().enumerate() {
+        let name = item_name(alloc, place, item)?;
+        names.push(name)?;
+    }
+    Ok(names)
+}
+
+fn column_names(alloc: Global, columns: &[ColumnDef]) -> Result<List<SqlText>, NoMemory>
+    ensures { IfOk result (λ names. names ≡ map (λ column. column.name) columns.now) }
+{
+    let mut names = List::new(alloc);
+    for column in columns {
+        let name = column.name.copy(alloc)?;
+        names.push(name)?;
+    }
+    Ok(names)
+}
+
+/// The names of the columns of the answer.
+pub(crate) fn output_names(
+    alloc: Global,
+    items: &Items,
+    alias: &SqlText,
+    columns: &[ColumnDef],
+) -> Result<List<SqlText>, NoMemory>
+    ensures { IfOk result (λ names. names ≡ spec.output_names (single alias.now columns.now) items.now) }
+{
+    let _ = alias;
+    match items {
+        Items::Star => column_names(alloc, columns),
+        Items::Listed(items) => item_names(alloc, items.as_slice()),
+    }
+}
