@@ -1,0 +1,4 @@
+pub mod Accepted
+pub mod Answered
+pub mod Scanned
+pub mod Tables

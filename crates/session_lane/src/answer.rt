@@ -1,0 +1,47 @@
+//! The answer to a SELECT.
+ghost use Rattle.std.specs.Prelude.{◌≡◌, true, IfOk};
+ghost use Rattle.cal_schema.specs.Fits.{Fits};
+ghost use Rattle.sql_meaning.specs.Direct.{direct};
+ghost use Rattle.sql_meaning.specs.Refused.{is_plain};
+ghost use Rattle.sql_validator.specs.Checked.{IsChecked};
+ghost use Rattle.session_lane.specs.Outputs.{HasFewColumns};
+
+use crate::expressions::{condition, outputs};
+use crate::rows::answer_rows;
+use crate::scan::scan;
+use cal_schema::Schema;
+use cal_snapshot::Snapshot;
+use cal_value::{List, NoMemory, Row};
+use sql_validator::{CheckedSelect, only_entry};
+use std::alloc::Global;
+
+/// The rows of an answer.
+#[derive(Debug, Drop)]
+pub struct Answer {
+    pub rows: List<Row>,
+}
+
+/// The rows that the SELECT means over the tables of the snapshot, in the order of its table. It is one that `validate`
+/// accepted over this schema, the schema is valid, and the tables fit it.
+pub fn answer_select(
+    alloc: Global,
+    checked: &CheckedSelect,
+    schema: &Schema,
+    snapshot: &Snapshot,
+) -> Result<Answer, NoMemory>
+    requires plain { is_plain checked.now.select ≡ true }
+    requires checked { IsChecked schema.now checked.now.select checked.now }
+    requires narrow { HasFewColumns schema.now }
+    requires fits { Fits (record { tables = snapshot.now.tables }) schema.now }
+    ensures { IfOk result (λ answer. answer.rows ≡ direct checked.now.select schema.now (record { tables = snapshot.now.tables })) }
+{
+    let entry = only_entry(&checked.select);
+    let number = checked.tables.as_slice()[0];
+    let table = &schema.tables.as_slice()[number as usize];
+    let columns = table.columns.as_slice();
+    let condition = condition(alloc, &checked.select.filter, &entry.alias, columns)?;
+    let outputs = outputs(alloc, &checked.select.items, &entry.alias, columns)?;
+    let rows = scan(alloc, table.adapter, columns.len(), snapshot, number)?;
+    let rows = answer_rows(alloc, &condition, &outputs, rows)?;
+    Ok(Answer { rows })
+}
