@@ -3,3 +3,5 @@ pub mod HeaderLemmas
 pub mod NameLemmas
 pub mod ReadLemmas
 pub mod RowLemmas
+pub mod SourceLemmas
+pub mod ZipLemmas

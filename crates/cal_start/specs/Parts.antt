@@ -1,10 +1,11 @@
 -- What the parts of a start do.
-use Rattle.std.specs.Prelude.{◌≡◌, ◌≢◌, ◌⊎◌, ◌<◌, ◌≤◌, ℕ, ◌-◌, min, List, [], ◌∷◌, ◌++◌, length, Option, Some, None, IfSome, IsSomeAnd, encode_utf8_all, Result, Ok, Err, ⊤}
+use Rattle.std.specs.Prelude.{◌≡◌, ◌≢◌, ◌⊎◌, ◌<◌, ◌≤◌, ℕ, ◌-◌, min, List, [], ◌∷◌, ◌++◌, length, map, Option, Some, None, IfSome, IsSomeAnd, encode_utf8_all, Result, Ok, Err, ⊤}
 use Rattle.cal_outside.specs.Store.{RoseFor}
 use Rattle.csv_tables.specs.Header.{header_of}
 use Rattle.csv_tables.specs.declared.fault.CsvFault.{CsvFault}
 use Rattle.csv_tables.specs.declared.fault.CsvFault.TheVariants as csv
 use Rattle.model_json.specs.ModelOf.{IsChecked, read_model}
+use Rattle.model_json.specs.Sources.{sources_of}
 use Rattle.model_json.specs.declared.model.ModelDoc.{ModelDoc}
 use Rattle.serde_json.specs.Data.{Data}
 use Rattle.serde_json.specs.View.{view}
@@ -58,6 +59,10 @@ HeaderSays told f f' b b' t None left old new result = InlineSays left old new r
 HeaderSays told f f' b b' t (Some file) left old new result = FileSays told f f' b b' t file left old new result
 
 -- ---- the headers of all tables
+
+-- the names of the files of tables
+abbrev pub file_names : Data → List (Option (List ℕ))
+file_names d = map (λ t. t.file) (sources_of d)
 
 abbrev pub HeadersCause : ToldFiles → ℕ → ℕ → ℕ → ℕ → Data → List FileRead → Result Headers StartFault → Type 0
 HeadersCause told f f' b b' d tables (Ok headers) = headers_in d tables ≡ Ok headers

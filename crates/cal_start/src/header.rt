@@ -1,8 +1,8 @@
-ghost use Rattle.std.specs.Prelude.{◌≡◌, ◌≤◌, IfOk, IfSome, length};
-ghost use Rattle.model_json.specs.ModelOf.{AreShort, IsChecked};
+ghost use Rattle.std.specs.Prelude.{◌≡◌, ◌≤◌, IfOk, IfSome, Some, length};
+ghost use Rattle.model_json.specs.ModelOf.{AreHeadersOf, AreShort, IsChecked, IsHeaderOf};
 ghost use Rattle.serde_json.specs.View.{view};
 ghost use Rattle.cal_start.specs.Next.{source_name};
-ghost use Rattle.cal_start.specs.Parts.{FileSays, HeaderSays, HeadersSay};
+ghost use Rattle.cal_start.specs.Parts.{FileSays, file_names, HeaderSays, HeadersSay};
 
 use crate::fault::{FileRead, StartFault, TableFault, TableName, csv_fault};
 use crate::name::{file_word, table_name};
@@ -39,6 +39,7 @@ fn read_file<S: Store>(
     ensures later { S.faults store.old ≤ S.faults store.new }
     ensures broken_later { S.broken store.old ≤ S.broken store.new }
     ensures few { IfOk result (λ next. IfSome next.header (λ columns. length columns ≤ 32)) }
+    ensures header { IfOk result (λ next. IsHeaderOf (Some file.now) next.header) }
     ensures read { FileSays (S.files store.old) (S.faults store.old) (S.faults store.new) (S.broken store.old) (S.broken store.new)
         table file.now left files.old files.new result }
 {
@@ -81,6 +82,7 @@ fn next_header<S: Store>(
     ensures later { S.faults store.old ≤ S.faults store.new }
     ensures broken_later { S.broken store.old ≤ S.broken store.new }
     ensures few { IfOk result (λ next. IfSome next.header (λ columns. length columns ≤ 32)) }
+    ensures header { IfOk result (λ next. IsHeaderOf source.now.file next.header) }
     ensures read { HeaderSays (S.files store.old) (S.faults store.old) (S.faults store.new) (S.broken store.old) (S.broken store.new)
         (source_name source.now) source.now.file left files.old files.new result }
 {
@@ -105,6 +107,7 @@ pub(crate) fn read_headers<S: Store>(
     ensures later { S.faults store.old ≤ S.faults store.new }
     ensures broken_later { S.broken store.old ≤ S.broken store.new }
     ensures short { IfOk result AreShort }
+    ensures headers { IfOk result (AreHeadersOf (file_names (view doc.now.json))) }
     ensures read { HeadersSay (S.files store.old) (S.faults store.old) (S.faults store.new) (S.broken store.old) (S.broken store.new)
         (view doc.now.json) files.old files.new result }
 {

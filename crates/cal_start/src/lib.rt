@@ -9,3 +9,6 @@ mod run;
 
 pub use fault::{FileRead, StartFault, TableFault, TableName};
 pub use run::{StartRecord, Started, start};
+
+#[cfg(test)]
+mod tests;

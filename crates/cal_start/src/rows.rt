@@ -1,5 +1,8 @@
-ghost use Rattle.std.specs.Prelude.{◌≡◌, []};
+ghost use Rattle.std.specs.Prelude.{◌≡◌, [], All, IfOk};
+ghost use Rattle.cal_schema.specs.Fits.{AreFilledBy, IsFilledBy};
+ghost use Rattle.cal_schema.specs.Valid.{IsValidTable};
 ghost use Rattle.csv_tables.specs.Table.{table_of};
+ghost use Rattle.model_json.specs.ModelOf.{AreInlineFilled, IsInlineOf};
 ghost use Rattle.cal_start.specs.Next as spec;
 ghost use Rattle.cal_start.specs.Parts.{RowsSay};
 
@@ -40,11 +43,10 @@ fn files_for<'a>(stored: &Option<List<Row>>, files: &'a [FileRead]) -> &'a [File
 
 // The rows of a table's file.
 fn file_rows(alloc: Global, table: &TableDef, bytes: &[u8]) -> Result<List<Row>, StartFault>
-    ensures { RowsSay (spec.told_rows (spec.table_name table.now) (table_of bytes.now table.now)) result }
+    requires { IsValidTable table.now }
+    ensures rows { RowsSay (spec.told_rows (spec.table_name table.now) (table_of bytes.now table.now)) result }
+    ensures filled { IfOk result (IsFilledBy table.now) }
 {
-    if table.columns.len() > 32 || table.max_rows > 1048576 {
-        return Err(StartFault::NoMemory);
-    }
     let Ok(name) = table_name(alloc, &table.schema, &table.name) else {
         return Err(StartFault::NoMemory);
     };
@@ -61,7 +63,10 @@ fn table_rows(
     stored: Option<List<Row>>,
     files: &[FileRead],
 ) -> Result<List<Row>, StartFault>
-    ensures { RowsSay (spec.rows_for table.now stored files.now) result }
+    requires valid { IsValidTable table.now }
+    requires inline { IsInlineOf table.now stored }
+    ensures rows { RowsSay (spec.rows_for table.now stored files.now) result }
+    ensures filled { IfOk result (IsFilledBy table.now) }
 {
     match stored {
         Some(rows) => Ok(rows),
@@ -76,7 +81,10 @@ pub(crate) fn all_rows(
     inline: List<Option<List<Row>>>,
     files: &[FileRead],
 ) -> Result<List<List<Row>>, StartFault>
-    ensures { RowsSay (spec.rows_after tables.now inline [] files.now) result }
+    requires valid { All IsValidTable tables.now }
+    requires inline { AreInlineFilled tables.now inline }
+    ensures rows { RowsSay (spec.rows_after tables.now inline [] files.now) result }
+    ensures filled { IfOk result (AreFilledBy tables.now) }
 {
     let mut all = List::new(alloc);
     let mut left = files;

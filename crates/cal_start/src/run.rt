@@ -1,7 +1,9 @@
-ghost use Rattle.std.specs.Prelude.{◌≡◌, ◌≤◌, []};
+ghost use Rattle.std.specs.Prelude.{◌≡◌, ◌≤◌, [], IfOk, Some, Ok};
+ghost use Rattle.cal_schema.specs.Fits.{Fits};
+ghost use Rattle.cal_schema.specs.Valid.{IsValidSchema};
 ghost use Rattle.model_json.specs.ModelOf.{IsChecked};
 ghost use Rattle.serde_json.specs.View.{view};
-ghost use Rattle.cal_start.specs.Next.{AreRead, EndCause, next_of};
+ghost use Rattle.cal_start.specs.Next.{AreRead, EndCause, initial_of, next_of};
 ghost use Rattle.cal_start.specs.Parts.{ModelSays, TablesSay, Ended};
 
 use crate::fault::{FileRead, StartFault, model_fault};
@@ -75,6 +77,8 @@ fn start_tables<S: Store>(
     ensures same { S.files store.new ≡ S.files store.old }
     ensures later { S.faults store.old ≤ S.faults store.new }
     ensures broken_later { S.broken store.old ≤ S.broken store.new }
+    ensures valid { IfOk result (λ started. IsValidSchema started.schema) }
+    ensures fits { IfOk result (λ started. Fits started.db started.schema) }
     ensures says { TablesSay (S.files store.old) (S.faults store.old) (S.faults store.new) (S.broken store.old) (S.broken store.new)
         (view doc.now.json) files.old files.new result }
 {
@@ -111,6 +115,8 @@ fn start_into<S: Store>(
     ensures same { S.files store.new ≡ S.files store.old }
     ensures later { S.faults store.old ≤ S.faults store.new }
     ensures broken_later { S.broken store.old ≤ S.broken store.new }
+    ensures valid { IfOk result (λ started. IsValidSchema started.schema) }
+    ensures fits { IfOk result (λ started. Fits started.db started.schema) }
     ensures ended { Ended (S.files store.old) (S.faults store.old) (S.faults store.new) (S.broken store.old) (S.broken store.new)
         model.now files.new result }
 {
@@ -130,6 +136,9 @@ pub fn start<S: Store>(alloc: Global, model: &Word, store: &mut S) -> StartRecor
     ensures read { AreRead (S.files store.old) (next_of model.now) result.files }
     ensures cause { EndCause (S.files store.old) (S.faults store.old) (S.faults store.new) (S.broken store.old) (S.broken store.new)
         (next_of model.now result.files) result.outcome }
+    ensures initial { IfOk result.outcome (λ started. initial_of model.now result.files ≡ Some (Ok started)) }
+    ensures valid { IfOk result.outcome (λ started. IsValidSchema started.schema) }
+    ensures fits { IfOk result.outcome (λ started. Fits started.db started.schema) }
 {
     let mut files = List::new(alloc);
     let outcome = start_into(alloc, model, store, &mut files);

@@ -1,8 +1,11 @@
-use Rattle.std.proofs.Common.{◌≤◌, ◌∙◌, List, Option, IfSome, length, arith}
+use Rattle.std.proofs.Common.{◌≤◌, ◌∙◌, List, Option, IfSome, ap, length, map, arith}
 use Rattle.std.proofs.lemmas.List.{drop_all}
 use Rattle.std.proofs.lemmas.List.Elements.{All-push}
 use Rattle.cal_schema.specs.declared.column.ColumnDef.{ColumnDef}
+use Rattle.model_json.specs.ModelOf.{IsHeaderOf}
+use Rattle.model_json.specs.declared.source.TableSource.{TableSource}
 use Rattle.cal_start.proofs.HeaderLemmas.{no_memory, headers_all, more_at, stopped_at}
+use Rattle.cal_start.proofs.ZipLemmas.{completes_all, completes_more, first_left}
 use Rattle.cal_start.proofs.header.read_headers.Goals as goal
 
 pub returns-in_default-push-clause-read : goal.returns-in_default-push-clause-read
@@ -21,6 +24,11 @@ loop-source-preserved g c = record {
   later = omega (arith, c.next_header.ensures.later, c.loop-source.invariant.later);
   broken_later = omega (arith, c.next_header.ensures.broken_later, c.loop-source.invariant.broken_later);
   short = rw c.in-Ok-push.ensures.ok (All-push (λ (header : Option (List ColumnDef)). IfSome header (λ cs. length cs ≤ 32)) _ _ c.loop-source.invariant.short c.in-Ok-next_header.ensures.few);
+  headers =
+    rw c.in-Ok-push.ensures.ok
+    (completes_more IsHeaderOf _ _ _ _ c.source-item.result.file c.in-Ok-next_header.next.header
+    (ap (map (λ (t : TableSource). t.file)) (first_left c.as_slice-source-items.result.now c.loop-source.source-index c.source-item.result (omega (arith, c.loop-source-test.true)) c.source-item.is))
+    c.in-Ok-next_header.ensures.header c.loop-source.invariant.headers);
   so_far =
       rw c.in-Ok-push.ensures.ok
       (more_at _ _ _ _ _ _ _ _ _ _ c.as_slice-source-items.result.now c.source-item.result c.loop-source.source-index c.loop-source.headers c.loop-source.left c.in-Ok-next_header.next (omega (arith, c.loop-source-test.true)) c.source-item.is c.loop-source.invariant.same c.loop-source.invariant.so_far c.in-Ok-next_header.ensures.read);
@@ -29,3 +37,7 @@ loop-source-preserved g c = record {
 pub returns-clause-read : goal.returns-clause-read
 returns-clause-read g c =
     headers_all _ _ _ _ _ _ _ _ _ _ _ (drop_all c.loop-source.source-index c.as_slice-source-items.result.now (omega (arith, c.loop-source-test.false))) c.loop-source.invariant.so_far
+
+pub returns-clause-headers : goal.returns-clause-headers
+returns-clause-headers g c =
+    completes_all IsHeaderOf _ _ _ (ap (map (λ (t : TableSource). t.file)) (drop_all c.loop-source.source-index c.as_slice-source-items.result.now (omega (arith, c.loop-source-test.false)))) c.loop-source.invariant.headers
