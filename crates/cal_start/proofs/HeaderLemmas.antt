@@ -3,11 +3,9 @@ use Rattle.std.proofs.Common.{◌≡◌, ◌≤◌, ◌<◌, ℕ, ◌+◌, ◌-�
 use Rattle.std.specs.Prelude.{encode_utf8_all}
 use Rattle.std.proofs.lemmas.List.{drop_more}
 use Rattle.cal_schema.specs.declared.column.ColumnDef.{ColumnDef}
-use Rattle.csv_tables.specs.Header.{header_of}
-use Rattle.model_json.specs.Sources.{sources_of}
 use Rattle.model_json.specs.declared.source.TableSource.{TableSource}
 use Rattle.serde_json.specs.Data.{Data}
-use Rattle.cal_start.specs.Next.{ToldFiles, Headers, Next, wants, most_table, most_tables, ◌>>=◌, header_for, left_after, files_after, headers_after, headers_in, after_headers, next_in, wants_file, source_name, told_header, AreRead, IsNext, EndCause}
+use Rattle.cal_start.specs.Next.{ToldFiles, Headers, Next, wants, most_table, ◌>>=◌, header_for, left_after, files_after, headers_after, headers_in, after_headers, next_in, wants_file, source_name, told_header, AreRead, IsNext, EndCause}
 use Rattle.cal_start.specs.Parts.{OneRead, HeaderSays, HeadersSay}
 use Rattle.cal_start.specs.declared.fault.FileRead.{FileRead}
 use Rattle.cal_start.specs.declared.fault.StartFault.{StartFault}
@@ -28,9 +26,6 @@ pub record SoFar (told : ToldFiles) (d : Data) (old files : List FileRead) (from
   pub kept : files ≡ old ++ tables
   pub read : AreRead told (next_in d) tables
   pub walked : (more : List FileRead) → headers_in d (tables ++ more) ≡ from more
-
-pub so_far_none : (told : ToldFiles) (d : Data) (old : List FileRead) → SoFar told d old old (λ more. headers_after (sources_of d) [] most_tables more)
-so_far_none told d old = record { tables = []; kept = sym (append-nil old); read = tt; walked = λ more. refl }
 
 -- the next file
 next_at : (d : Data) (tables : List FileRead) (next : Next) → headers_in d (tables ++ []) ≡ Err next → next_in d tables ≡ next

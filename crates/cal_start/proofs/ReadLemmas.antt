@@ -1,5 +1,5 @@
 -- Files that were read one after another.
-use Rattle.std.proofs.Common.{◌≡◌, ◌≤◌, ℕ, List, [], ◌∷◌, ◌++◌, Option, Some, None, sym, subst, append-nil, append_assoc, arith, inl, inr}
+use Rattle.std.proofs.Common.{◌≤◌, ℕ, List, [], ◌∷◌, ◌++◌, Some, None, sym, subst, append-nil, append_assoc, arith, inl, inr}
 use Rattle.cal_outside.specs.Store.{RoseFor}
 use Rattle.cal_start.specs.Next.{ToldFiles, EachAfter}
 use Rattle.cal_start.specs.declared.fault.FileRead.{FileRead}

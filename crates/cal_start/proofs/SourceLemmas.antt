@@ -1,5 +1,5 @@
 -- The names of the files of tables.
-use Rattle.std.proofs.Common.{◌≡◌, List, [], ◌∷◌, Result, Ok, Err, refl, ap, map, ℕ, Option}
+use Rattle.std.proofs.Common.{◌≡◌, List, [], ◌∷◌, Result, Ok, Err, refl, ap, map}
 use Rattle.model_json.specs.ModelOf.{FilesAre, IsChecked, file_name}
 use Rattle.model_json.specs.Reading.{◌>>=◌}
 use Rattle.model_json.specs.Schemas.{first_walk}

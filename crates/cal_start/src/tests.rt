@@ -5,7 +5,8 @@ use std::alloc::Global;
 use std::test::Fail;
 
 // One table with its rows, and one in the file `b`.
-const MODEL: &str = r#"{"schemas":[{"name":"S","tables":[{"name":"A","factory":"cal.MemTableFactory","operand":{"columns":["N:int"],"rows":[[7]]}},{"name":"B","factory":"org.apache.calcite.adapter.csv.CsvTableFactory","operand":{"file":"b"}}]}]}"#;
+const MODEL: &str =
+    r#"{"schemas":[{"name":"S","tables":[{"name":"A","factory":"cal.MemTableFactory","operand":{"columns":["N:int"],"rows":[[7]]}},{"name":"B","factory":"org.apache.calcite.adapter.csv.CsvTableFactory","operand":{"file":"b"}}]}]}"#;
 
 // The start over the model and a file `b`, where the read of this number fails.
 fn started(alloc: Global, text: &str, failing: u64) -> Result<StartRecord, NoMemory> {

@@ -25,10 +25,10 @@ loop-source-preserved g c = record {
   broken_later = omega (arith, c.next_header.ensures.broken_later, c.loop-source.invariant.broken_later);
   short = rw c.in-Ok-push.ensures.ok (All-push (λ (header : Option (List ColumnDef)). IfSome header (λ cs. length cs ≤ 32)) _ _ c.loop-source.invariant.short c.in-Ok-next_header.ensures.few);
   headers =
-    rw c.in-Ok-push.ensures.ok
-    (completes_more IsHeaderOf _ _ _ _ c.source-item.result.file c.in-Ok-next_header.next.header
-    (ap (map (λ (t : TableSource). t.file)) (first_left c.as_slice-source-items.result.now c.loop-source.source-index c.source-item.result (omega (arith, c.loop-source-test.true)) c.source-item.is))
-    c.in-Ok-next_header.ensures.header c.loop-source.invariant.headers);
+      rw c.in-Ok-push.ensures.ok
+      (completes_more IsHeaderOf _ _ _ _ c.source-item.result.file c.in-Ok-next_header.next.header
+      (ap (map (λ (t : TableSource). t.file)) (first_left c.as_slice-source-items.result.now c.loop-source.source-index c.source-item.result (omega (arith, c.loop-source-test.true)) c.source-item.is))
+      c.in-Ok-next_header.ensures.header c.loop-source.invariant.headers);
   so_far =
       rw c.in-Ok-push.ensures.ok
       (more_at _ _ _ _ _ _ _ _ _ _ c.as_slice-source-items.result.now c.source-item.result c.loop-source.source-index c.loop-source.headers c.loop-source.left c.in-Ok-next_header.next (omega (arith, c.loop-source-test.true)) c.source-item.is c.loop-source.invariant.same c.loop-source.invariant.so_far c.in-Ok-next_header.ensures.read);

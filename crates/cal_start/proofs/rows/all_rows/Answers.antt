@@ -1,4 +1,4 @@
-use Rattle.std.proofs.Common.{length, arith}
+use Rattle.std.proofs.Common.{arith}
 use Rattle.std.proofs.lemmas.List.{drop_all}
 use Rattle.cal_schema.specs.Fits.{IsFilledBy}
 use Rattle.cal_start.proofs.ZipLemmas.{completes_all, filled_from_zip}
