@@ -57,6 +57,7 @@ abbrev pub ◌>>=◌ : {A B E : Type 0} → Result A E → (A → Result B E) �
 (Ok x) >>= f = f x
 (Err e) >>= f = Err e
 
+-- A table that is read from a file is looked at once its file was read, so there is a first one then.
 abbrev pub first_bytes : List FileRead → List ℕ
 first_bytes [] = []
 first_bytes (file ∷ files) = file.bytes
