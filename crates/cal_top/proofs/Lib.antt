@@ -1,7 +1,2 @@
-pub mod DocumentLemmas
-pub mod EachLemmas
-pub mod MemberLemmas
-pub mod PrintLemmas
-pub mod QueryFits
-pub mod QueryLemmas
-pub mod RunLemmas
+mod ReplyLemmas
+mod RunLemmas

@@ -1,12 +1,4 @@
-pub mod AnswerRows
-pub mod Members
-pub mod ModelFile
-pub mod ModelForm
-pub mod Print
-pub mod QueryAsked
-pub mod QueryForm
-pub mod QueryReading
 pub mod Replies
 pub mod Run
+pub mod Statements
 pub mod Told
-pub mod Words

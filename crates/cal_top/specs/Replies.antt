@@ -1,31 +1,44 @@
 -- What the reply to a statement has to be.
-use Rattle.std.specs.Prelude.{◌≡◌, ℕ, List, [], ◌∷◌, map, None}
+use Rattle.std.specs.Prelude.{◌≡◌, ◌⊎◌, ℕ, List, Some, None}
 use Rattle.cal_value.specs.declared.value.Value.{Value}
-use Rattle.cal_top.specs.declared.ask.Query.{Query}
-use Rattle.cal_top.specs.declared.model.Model.{Model}
-use Rattle.cal_top.specs.declared.reply.Cause.TheVariants.{Text}
-use Rattle.cal_top.specs.declared.reply.Db.{Db}
-use Rattle.cal_top.specs.declared.reply.Refusal.TheVariants.{NotYet}
-use Rattle.cal_top.specs.declared.reply.Reply.{Reply}
-use Rattle.cal_top.specs.declared.reply.Reply.TheVariants.{Rows, Refused}
-use Rattle.cal_top.specs.AnswerRows.{answer_rows}
-use Rattle.cal_top.specs.QueryAsked.{AsksNothing}
-use Rattle.cal_top.specs.QueryForm.{Asks, name_at}
+use Rattle.cal_schema.specs.declared.database.Db.{Db}
+use Rattle.cal_schema.specs.declared.schema.Schema.{Schema}
+use Rattle.session_lane.specs.declared.reply.Cause.TheVariants.{Text}
+use Rattle.session_lane.specs.declared.reply.Reply.{Reply}
+use Rattle.session_lane.specs.declared.reply.Reply.TheVariants.{Rows, Refused}
+use Rattle.sql_meaning.specs.Direct.{direct}
+use Rattle.sql_meaning.specs.Names.{output_names}
+use Rattle.sql_meaning.specs.Scope.{scope_of}
+use Rattle.sql_text.specs.declared.select.Select.{Select}
+use Rattle.sql_text.specs.declared.statement.Statement.{Statement}
+use Rattle.sql_text.specs.declared.statement.Statement.TheVariants.{Select as SelectOf}
+use Rattle.cal_top.specs.Statements.{IsStatement, IsNoStatement, refusal_in}
 
--- the rows of the table of which the condition is TRUE, cut to the columns asked, in the table's order
-pub record IsAnswer (m : Model) (sql : List ℕ) (at : ℕ) (names : List (List ℕ)) (rows : List (List Value)) : Type 0 where
-  pub query : Query
-  pub asks : Asks m sql query
+-- The statement is a SELECT without a cause of refusal; the names are those of its columns, and the rows its direct meaning.
+pub record IsAnswered (schema : Schema) (db : Db) (statement : Statement) (at : ℕ) (names : List (List ℕ)) (rows : List (List Value)) : Type 0 where
+  pub select : Select
+  pub is_select : statement ≡ SelectOf select
+  pub accepted : refusal_in schema statement ≡ None
   pub place : at ≡ 0
-  pub names_are : names ≡ map (name_at m.columns) query.columns
-  pub rows_are : rows ≡ answer_rows query m.rows
+  pub names_are : names ≡ output_names (scope_of schema select) select.items
+  pub rows_are : rows ≡ direct select schema db
 
--- the rows where the text asks a query of the table, a refusal where it asks none
-abbrev pub IsReplyTo : Model → List ℕ → Reply → Type 0
-IsReplyTo m sql (Rows at names answer) = IsAnswer m sql at names answer.rows
-IsReplyTo m sql (Refused at cause) = (at ≡ None) × (cause ≡ Text NotYet) × AsksNothing m sql
+-- the reply to a statement
+abbrev pub Answers : Schema → Db → Statement → Reply → Type 0
+Answers schema db statement (Rows at names answer) = IsAnswered schema db statement at names answer.rows
+Answers schema db statement (Refused at (Text cause)) = (at ≡ None) × (refusal_in schema statement ≡ Some cause)
 
--- the tables are the model's, and the reply is one over them
-pub record IsReplied (m : Model) (sql : List ℕ) (db : Db) (reply : Reply) : Type 0 where
-  pub tables : db.tables ≡ m.rows ∷ []
-  pub replies : IsReplyTo m sql reply
+-- the reply tells why the text is no statement
+abbrev pub TellsNoStatement : List ℕ → Reply → Type 0
+TellsNoStatement text (Rows at names answer) = ⊥
+TellsNoStatement text (Refused at (Text cause)) = (at ≡ None) × IsNoStatement text cause
+
+-- the text is a statement, and the reply is one to it
+pub record AnswersText (schema : Schema) (db : Db) (text : List ℕ) (reply : Reply) : Type 0 where
+  pub statement : Statement
+  pub is_statement : IsStatement text statement
+  pub answers : Answers schema db statement reply
+
+-- the reply to a text
+abbrev pub IsReplyTo : Schema → Db → List ℕ → Reply → Type 0
+IsReplyTo schema db text reply = AnswersText schema db text reply ⊎ TellsNoStatement text reply

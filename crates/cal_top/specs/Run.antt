@@ -1,73 +1,24 @@
 -- What holds at each end of a run.
-use Rattle.std.specs.Prelude.{◌≡◌, ◌⊎◌, ◌<◌, ℕ, ◌≤◌, List, [], ◌∷◌, length, Option, Some, None, IfSome, IsSome, IsSomeAnd, encode_utf8_all}
+use Rattle.std.specs.Prelude.{◌≡◌, ◌⊎◌, ◌≤◌, ℕ, List, [], length, Option, Some, None, Err, IsSomeAnd, ⊤}
 use Rattle.cal_outside.specs.Faults.{Rose}
-use Rattle.cal_outside.specs.Store.{RoseFor}
 use Rattle.cal_outside.specs.Sink.{Adds, AddsPrefix}
-use Rattle.cal_top.specs.ModelFile.{model_in, IsModelFault}
-use Rattle.cal_top.specs.Replies.{IsReplied}
-use Rattle.cal_top.specs.Told.{status_of}
-use Rattle.cal_top.specs.Words.{reading}
-use Rattle.cal_top.specs.declared.model.Model.{Model}
-use Rattle.cal_top.specs.declared.reply.Db.{Db}
-use Rattle.cal_top.specs.declared.reply.FileRead.{FileRead}
-use Rattle.cal_top.specs.declared.reply.QueryRecord.{QueryRecord}
-use Rattle.cal_top.specs.declared.reply.Reply.{Reply}
-use Rattle.cal_top.specs.declared.reply.TopFault.{TopFault}
-use Rattle.cal_top.specs.declared.reply.TopFault.TheVariants.{BadWords, NotJson, BadModel, TooBig, ReadFault, SinkFault, NoMemory}
-
--- files by name, where they are told
-abbrev pub ToldFiles : Type 0
-ToldFiles = Option (List ℕ → Option (List ℕ))
-
--- the most bytes of a model
-abbrev pub most : ℕ
-most = 16777216
-
--- ---- what a model file gives that was read to its end
-
--- it is kept, with its name
-abbrev pub IsKept : List ℕ → List ℕ → List FileRead → Type 0
-IsKept name bytes files = files ≡ record { name = name; bytes = bytes } ∷ []
-
--- it is a model, and the statement has its reply over the model's table
-pub record Replies (sql bytes : List ℕ) (db : Option Db) (reply : Option Reply) : Type 0 where
-  pub model : Model
-  pub tables : Db
-  pub answer : Reply
-  pub is_model : model_in bytes ≡ Some model
-  pub db_is : db ≡ Some tables
-  pub reply_is : reply ≡ Some answer
-  pub replied : IsReplied model sql tables answer
+use Rattle.cal_schema.specs.declared.database.Db.{Db}
+use Rattle.cal_schema.specs.declared.schema.Schema.{Schema}
+use Rattle.cal_start.specs.Next.{ToldFiles, Next, wants, stops, done, next_of, AreRead, EndCause}
+use Rattle.cal_start.specs.declared.fault.FileRead.{FileRead}
+use Rattle.cal_start.specs.declared.fault.StartFault.{StartFault}
+use Rattle.command_line.specs.Reading.{reading}
+use Rattle.command_line.specs.declared.reading.Asked.{Asked}
+use Rattle.session_lane.specs.declared.reply.Reply.{Reply}
+use Rattle.cal_top.specs.Replies.{IsReplyTo}
+use Rattle.cal_top.specs.Told.{status_of, top_fault}
+use Rattle.cal_top.specs.declared.record.QueryRecord.{QueryRecord}
+use Rattle.cal_top.specs.declared.record.TopFault.{TopFault}
+use Rattle.cal_top.specs.declared.record.TopFault.TheVariants.{BadWords, NotJson, BadModel, Table, TooBig, ReadFault, SinkFault, NoMemory}
 
 -- there are no tables and no reply
 abbrev pub NoReply : Option Db → Option Reply → Type 0
 NoReply db reply = (db ≡ None) × (reply ≡ None)
-
-abbrev pub Judged : List ℕ → List ℕ → List ℕ → Option TopFault → List FileRead → Option Db → Option Reply → Type 0
-Judged name sql bytes None files db reply = IsKept name bytes files × Replies sql bytes db reply
-Judged name sql bytes (Some NoMemory) files db reply = (files ≡ []) ⊎ IsKept name bytes files
-Judged name sql bytes (Some fault) files db reply = IsKept name bytes files × IsModelFault bytes fault × NoReply db reply
-
--- ---- the causes
-
--- the model was read to its end, has at most 16 MiB, and is the told file of its name
-pub record ReadsModel (told : ToldFiles) (words : List (List ℕ)) (fault : Option TopFault) (files : List FileRead) (db : Option Db) (reply : Option Reply) : Type 0 where
-  pub name : List ℕ
-  pub sql : List ℕ
-  pub bytes : List ℕ
-  pub words_have : reading words ≡ Some (name, sql)
-  pub is_told : IfSome told (λ file. file (encode_utf8_all name) ≡ Some bytes)
-  pub short : length bytes ≤ most
-  pub judged : Judged name sql bytes fault files db reply
-
--- the model was not read to its end, and P says why
-pub record Unread (words : List (List ℕ)) (files : List FileRead) (db : Option Db) (reply : Option Reply) (P : List ℕ → Type 0) : Type 0 where
-  pub name : List ℕ
-  pub sql : List ℕ
-  pub words_have : reading words ≡ Some (name, sql)
-  pub no_file : files ≡ []
-  pub no_reply : NoReply db reply
-  pub why : P (encode_utf8_all name)
 
 -- the words have no reading
 pub record HasNoReading (words : List (List ℕ)) (files : List FileRead) (db : Option Db) (reply : Option Reply) : Type 0 where
@@ -75,20 +26,37 @@ pub record HasNoReading (words : List (List ℕ)) (files : List FileRead) (db : 
   pub no_file : files ≡ []
   pub no_reply : NoReply db reply
 
--- the told file is longer than the limit that is told
-abbrev pub IsLonger : ToldFiles → ℕ → List ℕ → Type 0
-IsLonger told limit name = (limit ≡ most) × IfSome told (λ file. IsSomeAnd (file name) (λ whole. most < length whole))
+-- The words ask something, each file was read whole after those before it, and P says what came of it.
+pub record HasRead (told : ToldFiles) (words : List (List ℕ)) (files : List FileRead) (P : Asked → Type 0) : Type 0 where
+  pub asked : Asked
+  pub words_have : reading words ≡ Some asked
+  pub read : AreRead told (next_of asked.model) files
+  pub then : P asked
+
+-- the files give a schema and its tables, and the statement has its reply over them
+pub record IsReplied (next : Next) (sql : List ℕ) (db : Option Db) (reply : Option Reply) : Type 0 where
+  pub schema : Schema
+  pub tables : Db
+  pub answer : Reply
+  pub all_read : next ≡ done schema tables
+  pub db_is : db ≡ Some tables
+  pub reply_is : reply ≡ Some answer
+  pub replied : IsReplyTo schema tables sql answer
+
+-- the start ended with this fault, for its cause
+pub record IsStopped (told : ToldFiles) (f f' b b' : ℕ) (next : Next) (fault : TopFault) (db : Option Db) (reply : Option Reply) : Type 0 where
+  pub start : StartFault
+  pub fault_is : fault ≡ top_fault start
+  pub cause : EndCause told f f' b b' next (Err start)
+  pub no_reply : NoReply db reply
 
 -- The cause of each fault that a run has to tell, and of none. f and b are the store's counts before, f' and b' after.
 abbrev pub HasCause : ToldFiles → ℕ → ℕ → ℕ → ℕ → List (List ℕ) → Option TopFault → List FileRead → Option Db → Option Reply → Type 0
-HasCause told f f' b b' words None files db reply = ReadsModel told words None files db reply
+HasCause told f f' b b' words None files db reply = HasRead told words files (λ asked. IsReplied (next_of asked.model files) asked.sql db reply)
 HasCause told f f' b b' words (Some BadWords) files db reply = HasNoReading words files db reply
-HasCause told f f' b b' words (Some NotJson) files db reply = ReadsModel told words (Some NotJson) files db reply
-HasCause told f f' b b' words (Some (BadModel path cause)) files db reply = ReadsModel told words (Some (BadModel path cause)) files db reply
-HasCause told f f' b b' words (Some (TooBig limit)) files db reply = Unread words files db reply (IsLonger told limit)
-HasCause told f f' b b' words (Some ReadFault) files db reply = Unread words files db reply (λ name. RoseFor told name f f' b b')
 HasCause told f f' b b' words (Some (SinkFault of)) files db reply = ⊥
-HasCause told f f' b b' words (Some NoMemory) files db reply = (files ≡ []) ⊎ ReadsModel told words (Some NoMemory) files db reply
+HasCause told f f' b b' words (Some NoMemory) files db reply = (files ≡ []) ⊎ HasRead told words files (λ asked. ⊤)
+HasCause told f f' b b' words (Some fault) files db reply = HasRead told words files (λ asked. IsStopped told f f' b b' (next_of asked.model files) fault db reply)
 
 -- ---- the end
 
@@ -108,14 +76,18 @@ pub record Cut (told : Option TopFault) (text : List ℕ) (old new : Option (Lis
 abbrev pub Ends : Option TopFault → List ℕ → Option (List ℕ) → Option (List ℕ) → ℕ → ℕ → QueryRecord → Type 0
 Ends told text old new f f' r = Wrote told text old new r ⊎ Cut told text old new f f' r
 
--- the words have a reading, and the told file is a model
+-- ---- valid input
+
+-- the file that is read next is there and keeps its limit, and nothing stops the run
+abbrev pub IsFine : (List ℕ → Option (List ℕ)) → Next → Type 0
+IsFine file (wants name limit longer) = IsSomeAnd (file name) (λ whole. length whole ≤ limit)
+IsFine file (stops fault) = ⊥
+IsFine file (done schema db) = ⊤
+
+-- the words have a reading, and whatever was read of the told files, all is fine with what comes next
 pub record IsValid (told : ToldFiles) (words : List (List ℕ)) : Type 0 where
   pub file : List ℕ → Option (List ℕ)
-  pub name : List ℕ
-  pub sql : List ℕ
-  pub bytes : List ℕ
+  pub asked : Asked
   pub told_files : told ≡ Some file
-  pub words_have : reading words ≡ Some (name, sql)
-  pub is_there : file (encode_utf8_all name) ≡ Some bytes
-  pub short : length bytes ≤ most
-  pub is_model : IsSome (model_in bytes)
+  pub words_have : reading words ≡ Some asked
+  pub fine : (files : List FileRead) → AreRead told (next_of asked.model) files → IsFine file (next_of asked.model files)

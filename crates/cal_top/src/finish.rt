@@ -3,9 +3,12 @@ ghost use Rattle.std.specs.Prelude.{◌≡◌, ◌≤◌};
 ghost use Rattle.cal_top.specs.Run.{Ends};
 ghost use Rattle.cal_top.specs.Told.{status_of, status_of_fault, status_of_reply};
 
-use crate::reply::{Db, FileRead, QueryRecord, Reply, TopFault};
+use crate::record::{QueryRecord, TopFault};
 use cal_outside::{Sink, write_all_text};
+use cal_schema::Db;
+use cal_start::FileRead;
 use cal_value::List;
+use session_lane::Reply;
 
 fn fault_status(fault: &TopFault) -> u8
     ensures { result ≡ status_of_fault fault.now }
@@ -14,6 +17,7 @@ fn fault_status(fault: &TopFault) -> u8
         TopFault::BadWords => 2,
         TopFault::NotJson => 3,
         TopFault::BadModel { path: _, cause: _ } => 3,
+        TopFault::Table { table: _, fault: _ } => 3,
         TopFault::TooBig { limit: _ } => 3,
         TopFault::ReadFault => 5,
         TopFault::SinkFault { of: _ } => 6,

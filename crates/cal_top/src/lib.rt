@@ -1,22 +1,19 @@
-//! A query from the words, the model file and the text to the printed answer.
+//! A query from the words, the files and the statement's text to the printed answer.
 #![tactic(auto)]
 
-mod answer;
-mod ask;
-mod document;
 mod finish;
 mod look;
-mod member;
-mod model;
-mod names;
-mod print;
 mod query;
-mod reply;
+mod record;
+mod statement;
+mod tables;
 mod told;
-mod words;
 
+pub use cal_schema::{Db, Refusal, WrittenName};
+pub use cal_start::{FileRead, TableFault, TableName};
+pub use csv_tables::{CsvCause, CsvFault};
+pub use model_json::ModelCause;
 pub use query::run_query;
-pub use reply::{Answer, Cause, Db, FileRead, ModelCause, QueryRecord, Refusal, Reply, TopFault};
+pub use record::{QueryRecord, TopFault};
+pub use session_lane::{Answer, Cause, Reply};
 
-#[cfg(test)]
-mod tests;

@@ -1,23 +1,25 @@
 //! All of a run but the writing.
-ghost use Rattle.std.specs.Prelude.{◌≡◌, ◌≤◌, ◌∷◌, [], Some, None, IfOk, IfSome, codes};
-ghost use Rattle.cal_top.specs.ModelFile.{IsReadModel, IsModelFault};
-ghost use Rattle.cal_top.specs.Replies.{IsReplied};
-ghost use Rattle.cal_top.specs.Run.{HasCause, Judged};
+ghost use Rattle.std.specs.Prelude.{◌≡◌, ◌≤◌, IfOk, IfSome, Some, None, map};
+ghost use Rattle.std.specs.Arc.{arc_value};
+ghost use Rattle.cal_schema.specs.Fits.{Fits};
+ghost use Rattle.cal_schema.specs.Valid.{IsValidSchema};
+ghost use Rattle.cal_top.specs.Replies.{IsReplyTo};
+ghost use Rattle.cal_top.specs.Run.{HasCause};
 ghost use Rattle.cal_top.specs.Told.{told_text};
 
-use crate::answer::{answer_names, answer_rows};
-use crate::ask::query_asked;
-use crate::document::{Unread, read_document};
-use crate::model::{Model, model_of};
-use crate::reply::{Answer, Cause, Db, FileRead, ModelCause, Refusal, Reply, TopFault};
+use crate::record::{TopFault, of_start};
+use crate::statement::reply_to;
+use crate::tables::{all_unshared, shared, shared_again};
 use crate::told::{fault_text, reply_text};
-use crate::words::{Reading, read_words};
-use cal_outside::{ReadAllFault, Store, Word, read_all};
-use cal_value::{Duplicate, List, NoMemory};
+use cal_outside::{Store, Word};
+use cal_schema::{Db, Schema};
+use cal_snapshot::Snapshot;
+use cal_start::{FileRead, StartRecord, Started, start};
+use cal_value::{List, NoMemory, Row};
+use command_line::read_words;
+use session_lane::Reply;
 use std::alloc::Global;
-
-/// The most bytes of a model file.
-pub const MODEL_LIMIT: u64 = 16777216;
+use std::sync::Arc;
 
 /// A run before its text is written. The text is missing where no memory was left for it.
 #[derive(Debug, Drop)]
@@ -71,102 +73,39 @@ fn with_reply(alloc: Global, files: List<FileRead>, made: Replied) -> Outcome
     }
 }
 
-// The fault of a document of another form, told at its root.
-fn other_form(alloc: Global) -> Result<TopFault, NoMemory>
-    ensures { IfOk result (λ fault. fault ≡ TopFault.BadModel (codes "/") ModelCause.NotYet) }
+// The reply to the statement over a snapshot of the tables.
+fn reply_over_parts(
+    alloc: Global,
+    sql: &Word,
+    schema: &Schema,
+    parts: List<Arc<List<Row>>>,
+) -> Result<Reply, NoMemory>
+    requires valid { IsValidSchema schema.now }
+    requires fits { Fits (record { tables = map arc_value parts }) schema.now }
+    ensures { IfOk result (IsReplyTo schema.now (record { tables = map arc_value parts }) sql.now) }
 {
-    let mut path = List::new(alloc);
-    path.extend(b"/")?;
-    Ok(TopFault::BadModel {
-        path,
-        cause: ModelCause::NotYet,
+    let snapshot = Snapshot::start(alloc, parts)?;
+    reply_to(alloc, sql.as_str(), schema, &snapshot)
+}
+
+// The reply to the statement over the tables, which are answered as they were.
+fn reply_over(alloc: Global, sql: &Word, schema: &Schema, db: Db) -> Result<Replied, NoMemory>
+    requires valid { IsValidSchema schema.now }
+    requires fits { Fits db schema.now }
+    ensures db { IfOk result (λ made. made.db ≡ db) }
+    ensures reply { IfOk result (λ made. IsReplyTo schema.now db sql.now made.reply) }
+{
+    let parts = shared(alloc, db.tables)?;
+    let again = shared_again(alloc, parts.as_slice())?;
+    let reply = reply_over_parts(alloc, sql, schema, again)?;
+    let tables = all_unshared(alloc, parts)?;
+    Ok(Replied {
+        db: Db { tables },
+        reply,
     })
 }
 
-fn read_model(alloc: Global, bytes: &[u8]) -> Result<Model, TopFault>
-    ensures { IsReadModel bytes.now result }
-{
-    let document = match read_document(alloc, bytes) {
-        Ok(document) => document,
-        Err(Unread::NotJson) => return Err(TopFault::NotJson),
-        Err(Unread::NoMemory) => return Err(TopFault::NoMemory),
-    };
-    match model_of(alloc, &document) {
-        Ok(Some(model)) => Ok(model),
-        Ok(None) => match other_form(alloc) {
-            Ok(fault) => Err(fault),
-            Err(_) => Err(TopFault::NoMemory),
-        },
-        Err(_) => Err(TopFault::NoMemory),
-    }
-}
-
-fn tables_of(alloc: Global, model: Model) -> Result<Db, NoMemory>
-    ensures { IfOk result (λ db. db.tables ≡ model.rows ∷ []) }
-{
-    let mut tables = List::new(alloc);
-    tables.push(model.rows)?;
-    Ok(Db { tables })
-}
-
-fn reply_to(alloc: Global, sql: &Word, model: Model) -> Result<Replied, NoMemory>
-    ensures { IfOk result (λ made. IsReplied model sql.now made.db made.reply) }
-{
-    match query_asked(alloc, &model, sql.as_str())? {
-        Some(query) => {
-            let names = answer_names(alloc, &query, model.columns.as_slice())?;
-            let rows = answer_rows(alloc, &query, model.rows.as_slice())?;
-            let db = tables_of(alloc, model)?;
-            Ok(Replied {
-                db,
-                reply: Reply::Rows {
-                    at: 0,
-                    names,
-                    answer: Answer { rows },
-                },
-            })
-        }
-        None => {
-            let db = tables_of(alloc, model)?;
-            Ok(Replied {
-                db,
-                reply: Reply::Refused {
-                    at: None,
-                    cause: Cause::Text(Refusal::NotYet),
-                },
-            })
-        }
-    }
-}
-
-fn keep_file(alloc: Global, name: &Word, bytes: List<u8>) -> Result<List<FileRead>, NoMemory>
-    ensures { IfOk result (λ files. files ≡ record { name = name.now; bytes = bytes } ∷ []) }
-{
-    let name = name.copy(alloc)?;
-    let mut files = List::new(alloc);
-    files.push(FileRead { name, bytes })?;
-    Ok(files)
-}
-
-// What a model file gives that was read to its end.
-fn judged(alloc: Global, model: &Word, sql: &Word, bytes: List<u8>) -> Outcome
-    ensures judged { Judged model.now sql.now bytes result.fault result.files result.db result.reply }
-    ensures text { IfSome result.text (λ text. text.items ≡ told_text result.fault result.reply) }
-{
-    let read = read_model(alloc, bytes.as_slice());
-    let Ok(files) = keep_file(alloc, model, bytes) else {
-        return stopped(alloc, TopFault::NoMemory, List::new(alloc));
-    };
-    match read {
-        Ok(read) => match reply_to(alloc, sql, read) {
-            Ok(made) => with_reply(alloc, files, made),
-            Err(_) => stopped(alloc, TopFault::NoMemory, files),
-        },
-        Err(fault) => stopped(alloc, fault, files),
-    }
-}
-
-/// Reads the model that the words name, and answers the statement over its table.
+/// Reads the words, the model and the files of its tables, and answers the statement over them.
 pub fn look<S: Store>(alloc: Global, words: &[Word], store: &mut S) -> Outcome
     ensures same { S.files store.new ≡ S.files store.old }
     ensures later { S.faults store.old ≤ S.faults store.new }
@@ -174,15 +113,17 @@ pub fn look<S: Store>(alloc: Global, words: &[Word], store: &mut S) -> Outcome
         words.now result.fault result.files result.db result.reply }
     ensures text { IfSome result.text (λ text. text.items ≡ told_text result.fault result.reply) }
 {
-    let Some(Reading { model, sql }) = read_words(words) else {
-        return stopped(alloc, TopFault::BadWords, List::new(alloc));
+    let asked = match read_words(alloc, words) {
+        Ok(Some(asked)) => asked,
+        Ok(None) => return stopped(alloc, TopFault::BadWords, List::new(alloc)),
+        Err(_) => return stopped(alloc, TopFault::NoMemory, List::new(alloc)),
     };
-    match read_all(alloc, store, model.as_str(), MODEL_LIMIT) {
-        Ok(bytes) => judged(alloc, model, sql, bytes),
-        Err(ReadAllFault::TooBig { limit }) => {
-            stopped(alloc, TopFault::TooBig { limit }, List::new(alloc))
-        }
-        Err(ReadAllFault::ReadFault) => stopped(alloc, TopFault::ReadFault, List::new(alloc)),
-        Err(ReadAllFault::NoMemory) => stopped(alloc, TopFault::NoMemory, List::new(alloc)),
+    let StartRecord { files, outcome } = start(alloc, &asked.model, store);
+    match outcome {
+        Ok(Started { schema, db }) => match reply_over(alloc, &asked.sql, &schema, db) {
+            Ok(made) => with_reply(alloc, files, made),
+            Err(_) => stopped(alloc, TopFault::NoMemory, files),
+        },
+        Err(fault) => stopped(alloc, of_start(fault), files),
     }
 }

@@ -1,21 +1,21 @@
 //! The top call.
 ghost use Rattle.std.specs.Prelude.{◌≡◌, ◌⊎◌, ◌≤◌, Option};
 ghost use Rattle.cal_outside.specs.Faults.{Rose};
-ghost use Rattle.cal_top.specs.declared.reply.TopFault.{TopFault as Fault};
+ghost use Rattle.cal_top.specs.declared.record.TopFault.{TopFault as Fault};
 ghost use Rattle.cal_top.specs.Run.{HasCause, Ends, IsValid};
 ghost use Rattle.cal_top.specs.Told.{told_text};
 
 use crate::finish::finish;
 use crate::look::{Outcome, look};
-use crate::reply::{QueryRecord, TopFault};
+use crate::record::{QueryRecord, TopFault};
 use cal_outside::{Sink, Store, Word};
 use std::alloc::Global;
 
-/// Answers one SELECT over the model that the words name, and writes the text of the answer. It never waits and always
-/// returns.
+/// Answers one SELECT over the tables of the model that the words name, and writes the text of the answer. It never waits
+/// and always returns.
 ///
-/// The words are the model's file name and the statement's text. Statuses: 0 header and rows, 1 the statement is refused,
-/// 2 the words have no reading, 3 a fault of the model, 5 a read failed, 6 the sink failed, 7 no memory.
+/// The words are `MODEL SQL [--budget N]`. Statuses: 0 header and rows, 1 the statement is refused, 2 the words have no
+/// reading, 3 a fault of the model or of a table's file, 5 a read failed, 6 the sink failed, 7 no memory.
 pub fn run_query<S: Store, K: Sink>(
     alloc: Global,
     words: &[Word],

@@ -1,9 +1,11 @@
-//! The rows of a SELECT.
+//! The rows of a SELECT, and replies to statements.
 #![tactic(auto)]
 
 mod answer;
 mod expressions;
+mod reply;
 mod rows;
 mod scan;
 
 pub use answer::{Answer, answer_select};
+pub use reply::{Cause, Reply};

@@ -1,0 +1,9 @@
+use Rattle.std.proofs.Common.{rules, ◌≡◌, map}
+use Rattle.std.specs.Arc.{arc_value}
+use Rattle.cal_top.proofs.ReplyLemmas.{same_tables}
+use Rattle.cal_top.proofs.look.reply_over.Goals as goal
+
+pub returns-clause-reply : goal.returns-clause-reply
+returns-clause-reply c =
+    let tables : map arc_value c.in_ok-again.again ≡ c.args.db.tables = search rules in
+    same_tables c.args.schema.now c.args.sql.now c.in_ok-reply.reply _ c.args.db tables c.in_ok-reply.ensures

@@ -1,0 +1,6 @@
+use Rattle.std.proofs.Common.{◌≡◌, map}
+use Rattle.std.specs.Arc.{arc_value}
+use Rattle.cal_top.proofs.tables.all_unshared.Given as goal
+
+abbrev pub invariant-loop-rows : goal.invariant-loop-rows
+invariant-loop-rows l = l.tables ≡ map arc_value l.yielded

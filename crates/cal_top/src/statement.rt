@@ -1,0 +1,158 @@
+//! The reply to a statement's text.
+ghost use Rattle.std.specs.Prelude.{◌≡◌, ◌≢◌, IfOk, IfErr, OnOk, None, true};
+ghost use Rattle.std.specs.Str.{chars};
+ghost use Rattle.cal_schema.specs.Fits.{Fits};
+ghost use Rattle.cal_schema.specs.Valid.{IsValidSchema};
+ghost use Rattle.cal_schema.specs.declared.refusal.Refusal.TheVariants as refused;
+ghost use Rattle.sql_meaning.specs.Refused as meaning;
+ghost use Rattle.sql_parser.specs.Answers.{IsWithinLimits};
+ghost use Rattle.sql_parser.specs.Grammar.{Spells};
+ghost use Rattle.session_lane.specs.declared.reply.Cause.TheVariants as causes;
+ghost use Rattle.session_lane.specs.declared.reply.Reply.TheVariants as replies;
+ghost use Rattle.sql_text.specs.declared.statement.Statement.TheVariants.{Select as SelectOf};
+ghost use Rattle.sql_validator.specs.Checked.{IsChecked};
+ghost use Rattle.cal_top.specs.Replies.{Answers, IsReplyTo};
+ghost use Rattle.cal_top.specs.Statements.{IsStatement, IsNoStatement, IsParseRefusal};
+
+use cal_schema::{Refusal, Schema};
+use cal_snapshot::Snapshot;
+use cal_value::{List, NoMemory};
+use session_lane::{Cause, Reply, answer_select};
+use sql_parser::{ParseFault, parse};
+use sql_text::{Select, Statement, Token, TokenFault, tokens};
+use sql_validator::{CheckedSelect, is_plain, validate};
+use std::alloc::Global;
+
+fn parsed(alloc: Global, tokens: &List<Token>) -> Result<Statement, Refusal>
+    ensures within { IfOk result (λ statement. IsWithinLimits tokens.now) }
+    ensures spelled { IfOk result (λ statement. Spells tokens.now statement) }
+    ensures fault { IfErr result (λ cause. IsParseRefusal tokens.now cause) }
+{
+    match parse(alloc, tokens) {
+        Ok(statement) => Ok(statement),
+        Err(ParseFault::TooDeep { limit }) => Err(Refusal::TooDeep { limit }),
+        Err(ParseFault::TooManyOperators { limit }) => Err(Refusal::TooManyOperators { limit }),
+        Err(ParseFault::NotSql) => Err(Refusal::NotSql),
+        Err(ParseFault::NoMemory) => Err(Refusal::NoMemory),
+    }
+}
+
+// The statement that a text is.
+fn statement_of(alloc: Global, text: &str) -> Result<Statement, Refusal>
+    ensures statement { IfOk result (IsStatement (chars text.now)) }
+    ensures fault { IfErr result (λ cause. cause ≢ refused.NoMemory → IsNoStatement (chars text.now) cause) }
+{
+    match tokens(alloc, text) {
+        Ok(tokens) => parsed(alloc, &tokens),
+        Err(TokenFault::NotToken { at }) => Err(Refusal::NotToken { at }),
+        Err(TokenFault::NoMemory) => Err(Refusal::NoMemory),
+    }
+}
+
+fn refused(cause: Refusal) -> Result<Reply, NoMemory>
+    ensures reply { IfOk result (λ reply. reply ≡ replies.Refused None (causes.Text cause)) }
+    ensures not_memory { OnOk result (cause ≢ refused.NoMemory) }
+{
+    match cause {
+        Refusal::NoMemory => Err(NoMemory),
+        cause => Ok(Reply::Refused {
+            at: None,
+            cause: Cause::Text(cause),
+        }),
+    }
+}
+
+// The rows of an accepted SELECT.
+fn answered(
+    alloc: Global,
+    checked: CheckedSelect,
+    schema: &Schema,
+    snapshot: &Snapshot,
+) -> Result<Reply, NoMemory>
+    requires plain { meaning.is_plain checked.select ≡ true }
+    requires checked { IsChecked schema.now checked.select checked }
+    requires valid { IsValidSchema schema.now }
+    requires fits { Fits (record { tables = snapshot.now.tables }) schema.now }
+    ensures { IfOk result (Answers schema.now (record { tables = snapshot.now.tables }) (SelectOf checked.select)) }
+{
+    let answer = answer_select(alloc, &checked, schema, snapshot)?;
+    Ok(Reply::Rows {
+        at: 0,
+        names: checked.names,
+        answer,
+    })
+}
+
+// The reply to a SELECT of a form that is answered.
+fn reply_to_plain(
+    alloc: Global,
+    select: Select,
+    schema: &Schema,
+    snapshot: &Snapshot,
+) -> Result<Reply, NoMemory>
+    requires plain { meaning.is_plain select ≡ true }
+    requires valid { IsValidSchema schema.now }
+    requires fits { Fits (record { tables = snapshot.now.tables }) schema.now }
+    ensures { IfOk result (Answers schema.now (record { tables = snapshot.now.tables }) (SelectOf select)) }
+{
+    match validate(alloc, select, schema) {
+        Ok(checked) => answered(alloc, checked, schema, snapshot),
+        Err(cause) => refused(cause),
+    }
+}
+
+fn reply_to_select(
+    alloc: Global,
+    select: Select,
+    schema: &Schema,
+    snapshot: &Snapshot,
+) -> Result<Reply, NoMemory>
+    requires valid { IsValidSchema schema.now }
+    requires fits { Fits (record { tables = snapshot.now.tables }) schema.now }
+    ensures { IfOk result (Answers schema.now (record { tables = snapshot.now.tables }) (SelectOf select)) }
+{
+    if is_plain(&select) {
+        reply_to_plain(alloc, select, schema, snapshot)
+    } else {
+        refused(Refusal::NotYet)
+    }
+}
+
+fn reply_to_statement(
+    alloc: Global,
+    statement: Statement,
+    schema: &Schema,
+    snapshot: &Snapshot,
+) -> Result<Reply, NoMemory>
+    requires valid { IsValidSchema schema.now }
+    requires fits { Fits (record { tables = snapshot.now.tables }) schema.now }
+    ensures { IfOk result (Answers schema.now (record { tables = snapshot.now.tables }) statement) }
+{
+    match statement {
+        Statement::Select(select) => reply_to_select(alloc, select, schema, snapshot),
+        Statement::ExplainPlan(_) => refused(Refusal::NotYet),
+        Statement::ExplainMemo(_) => refused(Refusal::NotYet),
+        Statement::Insert { .. } => refused(Refusal::NotAQuery),
+        Statement::Refresh { .. } => refused(Refusal::NotAQuery),
+        Statement::CreateTile(_) => refused(Refusal::NotAQuery),
+        Statement::DropTile(_) => refused(Refusal::NotAQuery),
+        Statement::ChooseTiles { .. } => refused(Refusal::NotAQuery),
+    }
+}
+
+/// The reply to a text: rows where it is a SELECT that is answered, and otherwise the first cause why it isn't.
+pub(crate) fn reply_to(
+    alloc: Global,
+    text: &str,
+    schema: &Schema,
+    snapshot: &Snapshot,
+) -> Result<Reply, NoMemory>
+    requires valid { IsValidSchema schema.now }
+    requires fits { Fits (record { tables = snapshot.now.tables }) schema.now }
+    ensures { IfOk result (IsReplyTo schema.now (record { tables = snapshot.now.tables }) (chars text.now)) }
+{
+    match statement_of(alloc, text) {
+        Ok(statement) => reply_to_statement(alloc, statement, schema, snapshot),
+        Err(cause) => refused(cause),
+    }
+}
