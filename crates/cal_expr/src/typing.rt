@@ -7,7 +7,8 @@ ghost use Rattle.cal_expr.specs.Typing.{type_of};
 use crate::expr::Expr;
 use cal_value::{Interval, Kind, List, Op, SqlType, Value};
 
-fn is_same_kind(a: Kind, b: Kind) -> bool
+/// Whether the two are one kind.
+pub fn is_same_kind(a: Kind, b: Kind) -> bool
     ensures { result ≡ same_kind a b }
 {
     matches!(

@@ -6,7 +6,11 @@ use Rattle.std.proofs.lemmas.Bool.{lt-ltb, le-ltb, cases_lt}
 use Rattle.std.proofs.lemmas.Bool.Decides.{nat_tests}
 use Rattle.std.proofs.Math.ListN.{drop_of_length-le}
 use Rattle.std.specs.Cmp.Lexicographic.{pointwise}
+use Rattle.std.proofs.Common.{Option}
+use Rattle.std.proofs.lemmas.List.Quantifiers.{position-Some}
+use Rattle.cal_schema.specs.declared.schema.Schema.{Schema}
 use Rattle.cal_schema.specs.Column.{divided_at}
+use Rattle.cal_schema.specs.Lookup.{is_named, table_named}
 
 -- no colon from n on, and a colon right before n
 pub divided-is : (text : List ℕ) (n d : ℕ) → n ≤ length text → ((k : ℕ) → n ≤ k → k < length text → get_or text k d ≢ 58) → (0 < n → get_or text (n - 1) d ≡ 58) → n ≡ divided_at text
@@ -61,3 +65,12 @@ spelled-end a cs n within past = rw (drop_of_length-le cs past) (ended a n withi
 
     ended : (a : List ℕ) (n : ℕ) → n ≤ length a → (n == length a) ≡ pointwise ◌==◌ (drop n a) []
     ended a n within = elim (cases_lt n (length a)) [ inl lt ↦ at_more a n lt | inr ge ↦ at_end a n within ge ]
+
+pub position-below : {X : Type 0} (p : X → Bool) (xs : List X) (at : ℕ) → position p xs ≡ Some at → at < length xs
+position-below p [] at e = absurd (cc)
+position-below p (x ∷ xs) at e = (position-Some p (x ∷ xs) at x e).0
+
+pub table_named-below : (s : Schema) (schema : Option (List ℕ)) (name : List ℕ) (at : ℕ) → Some at ≡ table_named s schema name → at < length s.tables
+table_named-below s schema name at e = position-below (is_named s schema name) s.tables at (sym e)
+
+pub ruleset place_rules = (table_named-below)

@@ -78,24 +78,29 @@ impl Schema {
     {
         match schema {
             Some(written) => table.schema == *written,
-            None => match &self.default_schema {
-                Some(default) => table.schema == *default,
-                None => false,
-            },
+            None => self.is_in(None, table),
         }
     }
 
+    fn place_of(&self, schema: &Option<SqlText>, name: &SqlText) -> Option<usize>
+        ensures { result ≡ table_named self.now schema.now name.now }
+    {
+        self.tables
+            .as_slice()
+            .iter()
+            .position(|table| table.name == *name && self.is_of(schema, table))
+    }
+
     /// The same of names that are texts.
+    #[tactic(auto, using(crate::proofs::NameLemmas::place_rules))]
     pub fn table_of(&self, schema: &Option<SqlText>, name: &SqlText) -> Option<u32>
         requires { length self.now.tables ≤ 64 }
         ensures found { result ≡ table_named self.now schema.now name.now }
         ensures within { IfSome result (λ at. at < length self.now.tables) }
     {
-        for (at, table) in self.tables.as_slice().iter().enumerate() {
-            if table.name == *name && self.is_of(schema, table) {
-                return Some(at as u32);
-            }
+        match self.place_of(schema, name) {
+            Some(at) => Some(at as u32),
+            None => None,
         }
-        None
     }
 }

@@ -1,35 +1,25 @@
 -- What no cause of a refusal says of each tree of a SELECT.
-use Rattle.std.proofs.Common.{◌≡◌, ◌∙◌, ap, sym, arith, ℕ, Bool, List, [], ◌∷◌, ◌++◌, map, find, All, Option, Some, None, option_map}
+use Rattle.std.proofs.Common.{◌≡◌, ◌∙◌, ap, sym, arith, ℕ, Bool, List, [], ◌∷◌, ◌++◌, find, All, Option, Some, None, option_map}
 use Rattle.std.specs.List.{flat_map}
-use Rattle.std.specs.Option.{option_or}
 use Rattle.std.proofs.lemmas.Grind.{flat_map-append}
 use Rattle.std.proofs.lemmas.List.Folds.{find-append}
-use Rattle.std.proofs.lemmas.List.Elements.{All-cons, All-head}
-use Rattle.cal_schema.specs.declared.refusal.Refusal.{Refusal}
+use Rattle.std.proofs.lemmas.List.Elements.{All-cons}
 use Rattle.cal_schema.specs.declared.refusal.Refusal.TheVariants.{UnknownColumn, TypeClash, MayNotFit}
 use Rattle.cal_schema.specs.declared.schema.Schema.{Schema}
 use Rattle.sql_text.specs.declared.select.Select.{Select}
-use Rattle.sql_text.specs.declared.tree.ColumnName.{ColumnName}
 use Rattle.sql_text.specs.declared.tree.Tree.{Tree}
 use Rattle.sql_meaning.specs.declared.misfit.Misfit.{Misfit}
 use Rattle.sql_meaning.specs.Kinds.{kinded, not_boolean, clashes, condition_clashes}
 use Rattle.sql_meaning.specs.Refused.{item_trees, listed, trees_of, columns_in, is_unknown_column, unknown_table, unknown_column, lower, lowest, type_clash, nearer, nearest, may_not_fit, all_clashes, all_misfits, refusal_of, column_name}
 use Rattle.sql_meaning.specs.Scope.{Header, scope_of}
 use Rattle.sql_meaning.specs.Sizes.{misfits}
+use Rattle.sql_meaning.proofs.Nothing.{both-empty, or-none}
 
 -- ---- nothing was found
-
-or-none : {A : Type 0} (o p : Option A) → option_or o p ≡ None → (o ≡ None) × (p ≡ None)
-or-none None p e = (cc, e)
-or-none (Some x) p e = absurd (cc)
 
 map-none : {A B : Type 0} (f : A → B) (o : Option A) → option_map f o ≡ None → o ≡ None
 map-none f None e = cc
 map-none f (Some x) e = absurd (cc)
-
-both-empty : {A : Type 0} (xs ys : List A) → xs ++ ys ≡ [] → (xs ≡ []) × (ys ≡ [])
-both-empty [] ys e = (cc, e)
-both-empty (x ∷ xs) ys e = absurd (cc)
 
 lower-some : (x : ℕ) (o : Option ℕ) → lower x o ≡ None → ⊥
 lower-some x None e = absurd (cc)
@@ -80,10 +70,10 @@ nothing schema select e =
     let columns = or-none (unknown_column (scope_of schema select) select) _ tables.1 in
     let kinds = or-none (type_clash (scope_of schema select) select) (may_not_fit (scope_of schema select) select) columns.1 in
     record {
-  unknown = map-none (λ c. UnknownColumn (column_name c)) _ columns.0;
-  clashing = lowest-none (all_clashes (scope_of schema select) select) (map-none TypeClash _ kinds.0);
-  misfit = nearest-none (all_misfits (scope_of schema select) select) (map-none (λ (m : Misfit). MayNotFit m.place m.lo m.hi) _ kinds.1);
-}
+      unknown = map-none (λ c. UnknownColumn (column_name c)) _ columns.0;
+      clashing = lowest-none (all_clashes (scope_of schema select) select) (map-none TypeClash _ kinds.0);
+      misfit = nearest-none (all_misfits (scope_of schema select) select) (map-none (λ (m : Misfit). MayNotFit m.place m.lo m.hi) _ kinds.1);
+    }
 
 all-right : (scope : List Header) (trees : List Tree) → find (is_unknown_column scope) (flat_map columns_in trees) ≡ None → flat_map (clashes scope) trees ≡ [] → flat_map (misfits scope) trees ≡ [] → All (IsRight scope) trees
 all-right scope trees u c m k d lt = record {
@@ -107,9 +97,9 @@ are_right schema select e =
     let c = both-empty (flat_map (clashes scope) items) (flat_map (condition_clashes scope) filters) n.clashing in
     let m = both-empty (flat_map (misfits scope) items) (flat_map (misfits scope) filters) (sym (flat_map-append (misfits scope) items filters) ∙ n.misfit) in
     record {
-  items = all-right scope items u.0 c.0 m.0;
-  filter = all-right scope filters u.1 (filter-alike scope select.filter c.1) m.1;
-}
+      items = all-right scope items u.0 c.0 m.0;
+      filter = all-right scope filters u.1 (filter-alike scope select.filter c.1) m.1;
+    }
   where
     scope : List Header
     scope = scope_of schema select

@@ -1,5 +1,5 @@
 -- The answer is what the SELECT means.
-use Rattle.std.proofs.Common.{rules, ◌≡◌, ◌<◌, ◌∙◌, ap, sym, subst, refl, arith, ℕ, Bool, true, false, cond, List, [], ◌∷◌, ◌++◌, length, map, filter, All, get_or, append-nil, Option, Some, None, IsSome, IfSome, option_map, unwrap_or, slice_get}
+use Rattle.std.proofs.Common.{rules, ◌≡◌, ◌∙◌, ap, sym, subst, refl, arith, ℕ, Bool, true, false, cond, List, [], ◌∷◌, ◌++◌, length, map, filter, All, get_or, append-nil, Option, Some, None, IsSome, IfSome, option_map, unwrap_or, slice_get}
 use Rattle.std.specs.Option.{IsSomeAnd}
 use Rattle.std.proofs.lemmas.List.{map-append}
 use Rattle.std.proofs.lemmas.List.Elements.{All-cons, All-head, All-tail, All-map, filter-append}
@@ -21,15 +21,14 @@ use Rattle.sql_text.specs.declared.select.Items.{Items}
 use Rattle.sql_text.specs.declared.select.Items.TheVariants.{Star, Listed}
 use Rattle.sql_text.specs.declared.select.Select.{Select}
 use Rattle.sql_text.specs.declared.tree.Tree.{Tree}
-use Rattle.sql_meaning.specs.Direct.{direct, bound, passes, item_values, rows_of, shown}
-use Rattle.sql_meaning.specs.Kinds.{kinded}
+use Rattle.sql_meaning.specs.Direct.{direct, bound, passes, item_values, shown}
 use Rattle.sql_meaning.specs.Refused.{item_trees, listed, refusal_of}
-use Rattle.sql_meaning.specs.Scope.{Header, single, columns_of, header_of, hidden_by, scope_of, types_in}
+use Rattle.sql_meaning.specs.Scope.{Header, single, columns_of, header_of, hidden_by, types_in}
 use Rattle.sql_meaning.specs.Sizes.{tree_type}
-use Rattle.sql_meaning.specs.Value.{Bound, value, is_true}
+use Rattle.sql_meaning.specs.Value.{value, is_true}
 use Rattle.sql_meaning.proofs.OneEntry.{direct_of_one}
 use Rattle.sql_meaning.proofs.OnePlace.{types-single}
-use Rattle.sql_to_rel.specs.Numbered.{numbered, IsFull, AreFull}
+use Rattle.sql_to_rel.specs.Numbered.{numbered, IsFull}
 use Rattle.sql_to_rel.proofs.Typed.{typed}
 use Rattle.sql_to_rel.proofs.Types.{type_of-numbered}
 use Rattle.sql_to_rel.proofs.Values.{meaning_of-numbered}
@@ -39,18 +38,12 @@ use Rattle.session_lane.proofs.Tables.{IsOver, columns-known, header-known, scop
 
 -- ---- a loop over rows
 
-pub kept-next : (p : List Value → Bool) (f : List Value → List Value) (xs : List (List Value)) (x out : List Value) (rows new : List (List Value)) → p x ≡ true → out ≡ f x → rows ≡ map f (filter p xs) → new ≡ rows ++ out ∷ []
+pub rows-next : (p : List Value → Bool) (f : List Value → List Value) (xs : List (List Value)) (x : List Value) (rows new : List (List Value)) → rows ≡ map f (filter p xs) → new ≡ rows ++ map f (filter p (x ∷ []))
     → new ≡ map f (filter p (xs ++ x ∷ []))
-kept-next p f xs x out rows new ek eo er en =
+rows-next p f xs x rows new er en =
     en
-    ∙ ap (λ rs. rs ++ out ∷ []) er
-    ∙ ap (λ o. map f (filter p xs) ++ o ∷ []) eo
-    ∙ sym (ap (map f) (filter-append p xs (x ∷ [])) ∙ map-append f (filter p xs) (filter p (x ∷ [])) ∙ ap (λ b. map f (filter p xs) ++ map f (cond b (x ∷ []) [])) ek)
-
-pub skip-next : (p : List Value → Bool) (f : List Value → List Value) (xs : List (List Value)) (x : List Value) (rows : List (List Value)) → p x ≡ false → rows ≡ map f (filter p xs) → rows ≡ map f (filter p (xs ++ x ∷ []))
-skip-next p f xs x rows ek er =
-    er
-    ∙ sym (ap (map f) (filter-append p xs (x ∷ [])) ∙ map-append f (filter p xs) (filter p (x ∷ [])) ∙ ap (λ b. map f (filter p xs) ++ map f (cond b (x ∷ []) [])) ek ∙ append-nil (map f (filter p xs)))
+    ∙ ap (λ rs. rs ++ map f (filter p (x ∷ []))) er
+    ∙ sym (ap (map f) (filter-append p xs (x ∷ [])) ∙ map-append f (filter p xs) (filter p (x ∷ [])))
 
 -- ---- the expressions are well formed
 
@@ -64,10 +57,10 @@ well-formed alias columns row tree h r =
     let P : Option SqlType → Type 0 = λ o. IsSome o in
     let whole : IsSome (type_of (numbered (single alias columns) tree) (types_in (single alias columns))) = subst P (sym (type_of-numbered (single alias columns) tree)) some in
     record {
-  types = map (λ c. c.kind) columns;
-  has_types = h;
-  typed = subst P (ap (type_of (numbered (single alias columns) tree)) (types-single alias columns)) whole;
-}
+      types = map (λ c. c.kind) columns;
+      has_types = h;
+      typed = subst P (ap (type_of (numbered (single alias columns) tree)) (types-single alias columns)) whole;
+    }
 
 tested : (alias : List ℕ) (columns : List ColumnDef) (row : List Value) (filter : Option Tree) → HasTypes row (map (λ c. c.kind) columns) → All (IsRight (single alias columns)) (listed filter)
     → IfSome (option_map (numbered (single alias columns)) filter) (λ e. IsWellFormed e row)
@@ -91,9 +84,9 @@ ready schema select entry number table row over accepted h =
     let P : List Header → Type 0 = λ scope. AreRight scope select in
     let right : AreRight (single entry.alias table.columns) select = subst P (scope-known schema select entry number table over) (are_right schema select accepted) in
     record {
-  tested = tested entry.alias table.columns row select.filter h right.filter;
-  computed = computed entry.alias table.columns row select.items h right.items;
-}
+      tested = tested entry.alias table.columns row select.filter h right.filter;
+      computed = computed entry.alias table.columns row select.items h right.items;
+    }
 
 -- ---- the values are those of the SELECT
 

@@ -1,5 +1,5 @@
 -- The table of a SELECT over one entry of FROM, and its rows.
-use Rattle.std.proofs.Common.{◌≡◌, ◌<◌, ◌∙◌, ap, sym, subst, refl, arith, ℕ, zero, suc, List, [], ◌∷◌, length, map, All, get_or, Option, Some, None, IsSome, option_map, unwrap_or, slice_get}
+use Rattle.std.proofs.Common.{◌≡◌, ◌<◌, ◌∙◌, ap, sym, subst, refl, arith, ℕ, zero, suc, List, [], ◌∷◌, length, map, All, get_or, Option, Some, IsSome, option_map, unwrap_or, slice_get}
 use Rattle.std.specs.Option.{option_and_then}
 use Rattle.std.proofs.Common.{rules}
 use Rattle.std.proofs.lemmas.List.{length-map}
@@ -16,7 +16,7 @@ use Rattle.sql_text.specs.declared.select.FromEntry.{FromEntry}
 use Rattle.sql_text.specs.declared.select.Select.{Select}
 use Rattle.sql_text.specs.declared.select.TableName.{TableName}
 use Rattle.cal_schema.specs.Lookup.{is_named}
-use Rattle.sql_meaning.proofs.OnePlace.{position-below}
+use Rattle.cal_schema.proofs.NameLemmas.{position-below}
 use Rattle.sql_meaning.specs.Direct.{rows_of}
 use Rattle.sql_meaning.specs.Scope.{Header, single, number_of, columns_of, hidden_by, header_of, scope_of}
 
@@ -92,12 +92,12 @@ pub is_over : (schema : Schema) (select : Select) (entry : FromEntry) (tables : 
 is_over schema select entry tables table only shown numbers is =
     let found : Some (get_or tables 0 0) ≡ number_of schema entry.table = number-known schema select.from entry tables numbers only in
     record {
-  only = only;
-  shown = shown;
-  found = found;
-  within = position-below (is_named schema entry.table.schema entry.table.name) schema.tables (get_or tables 0 0) (sym found);
-  is = is;
-}
+      only = only;
+      shown = shown;
+      found = found;
+      within = position-below (is_named schema entry.table.schema entry.table.name) schema.tables (get_or tables 0 0) (sym found);
+      is = is;
+    }
 
 pub rows-of : (schema : Schema) (db : Db) (entry : FromEntry) (number : ℕ) → Some number ≡ number_of schema entry.table → rows_of schema db entry ≡ unwrap_or (slice_get db.tables number) []
 rows-of schema db entry number e = ap (λ o. unwrap_or (option_and_then (slice_get db.tables) o) []) (sym e)

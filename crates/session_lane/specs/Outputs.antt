@@ -1,11 +1,10 @@
 -- The expressions of a SELECT over one row, and what they make of rows.
-use Rattle.std.specs.Prelude.{ℕ, ◌≤◌, Bool, true, List, [], ◌∷◌, ◌++◌, zero, suc, length, map, All, IfSome, Option, Some, None, option_map}
+use Rattle.std.specs.Prelude.{ℕ, ◌≤◌, Bool, true, List, [], ◌∷◌, ◌++◌, zero, suc, length, map, All, IfSome, Option, Some, None}
 use Rattle.cal_expr.specs.declared.expr.Expr.{Expr}
 use Rattle.cal_expr.specs.Meaning.{meaning_of}
 use Rattle.cal_expr.specs.WellFormed.{IsWellFormed}
 use Rattle.cal_schema.specs.declared.schema.Schema.{Schema}
 use Rattle.cal_value.specs.declared.value.Value.{Value}
-use Rattle.sql_text.specs.declared.select.Item.{Item}
 use Rattle.sql_text.specs.declared.select.Items.{Items}
 use Rattle.sql_text.specs.declared.select.Items.TheVariants.{Star, Listed}
 use Rattle.sql_meaning.specs.Scope.{Header}

@@ -1,5 +1,5 @@
 //! What expressions make of rows.
-ghost use Rattle.std.specs.Prelude.{◌≡◌, All, map, filter, IfOk, IfSome};
+ghost use Rattle.std.specs.Prelude.{◌≡◌, ◌++◌, ◌∷◌, [], All, map, filter, IfOk, IfSome, OnOk};
 ghost use Rattle.cal_expr.specs.Meaning.{meaning_of};
 ghost use Rattle.cal_expr.specs.WellFormed.{IsWellFormed};
 ghost use Rattle.sql_meaning.specs.Value as meaning;
@@ -54,6 +54,23 @@ fn output(alloc: Global, outputs: &Option<List<Expr>>, row: Row) -> Result<Row, 
     }
 }
 
+fn add_output(
+    alloc: Global,
+    condition: &Option<Expr>,
+    outputs: &Option<List<Expr>>,
+    row: Row,
+    answer: &mut List<Row>,
+) -> Result<(), NoMemory>
+    requires { AreWellFormed condition.now outputs.now row }
+    ensures { OnOk result (answer.new ≡ answer.old ++ map (spec.output_of outputs.now) (filter (spec.keeps condition.now) (row ∷ []))) }
+{
+    if !keeps(alloc, condition, &row)? {
+        return Ok(());
+    }
+    let output = output(alloc, outputs, row)?;
+    answer.push(output)
+}
+
 /// The outputs of the rows that the condition keeps, in their order.
 pub(crate) fn answer_rows(
     alloc: Global,
@@ -66,10 +83,7 @@ pub(crate) fn answer_rows(
 {
     let mut answer = List::new(alloc);
     for row in rows.into_vec() {
-        if keeps(alloc, condition, &row)? {
-            let output = output(alloc, outputs, row)?;
-            answer.push(output)?;
-        }
+        add_output(alloc, condition, outputs, row, &mut answer)?;
     }
     Ok(answer)
 }

@@ -1,14 +1,12 @@
 -- A SELECT over one entry of FROM.
-use Rattle.std.specs.Prelude.{◌≡◌, refl, List, [], ◌∷◌, ◌++◌, map, filter, Bool, true, false, if◌then◌else◌}
+use Rattle.std.specs.Prelude.{◌≡◌, refl, List, [], ◌∷◌, map, filter, Bool, true, false, if◌then◌else◌}
 use Rattle.std.specs.List.{flat_map}
-use Rattle.std.proofs.Common.{sym, ap, subst, ◌∙◌}
-use Rattle.cal_value.specs.declared.value.Value.{Value}
+use Rattle.std.proofs.Common.{ap, ◌∙◌}
 use Rattle.cal_schema.specs.declared.database.Db.{Db}
 use Rattle.cal_schema.specs.declared.schema.Schema.{Schema}
 use Rattle.sql_text.specs.declared.select.FromEntry.{FromEntry}
 use Rattle.sql_text.specs.declared.select.Select.{Select}
-use Rattle.sql_meaning.specs.Value.{Bound}
-use Rattle.sql_meaning.specs.Direct.{direct, rows_of, bound, passes, item_values, found, loops, pairs}
+use Rattle.sql_meaning.specs.Direct.{direct, rows_of, bound, passes, item_values, loops, pairs}
 
 singles : {A : Type 0} (xs : List A) → flat_map (λ x. x ∷ []) xs ≡ xs
 singles [] = refl

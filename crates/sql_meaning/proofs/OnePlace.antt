@@ -1,9 +1,9 @@
 -- The place of a column among those of one entry of FROM.
-use Rattle.std.proofs.Common.{◌≡◌, ◌<◌, ℕ, Bool, true, false, cond, refl, ap, append-nil, ◌∙◌, List, [], ◌∷◌, length, map, Option, Some, None, option_map, unwrap_or, IfSome}
+use Rattle.std.proofs.Common.{◌≡◌, ◌<◌, ℕ, Bool, true, false, cond, refl, ap, append-nil, ◌∙◌, List, length, map, Option, Some, None, option_map, unwrap_or, IfSome}
 use Rattle.std.specs.Prelude.{position}
-use Rattle.std.proofs.lemmas.List.Quantifiers.{position-Some}
 use Rattle.cal_schema.specs.declared.column.ColumnDef.{ColumnDef}
 use Rattle.cal_schema.specs.Lookup.{is_same_name}
+use Rattle.cal_schema.proofs.NameLemmas.{position-below}
 use Rattle.sql_text.specs.declared.tree.ColumnName.{ColumnName}
 use Rattle.sql_meaning.specs.Scope.{single, place_of, types_in}
 
@@ -21,10 +21,6 @@ pub place-elsewhere : (alias : List ℕ) (columns : List ColumnDef) (c : ColumnN
     → place_of (single alias columns) c ≡ None
 place-elsewhere alias columns c e =
     ap (λ b. unwrap_or (option_map Some (cond b (position (λ d. is_same_name d.name c.name) columns) None)) None) e
-
-pub position-below : {X : Type 0} (p : X → Bool) (xs : List X) (at : ℕ) → position p xs ≡ Some at → at < length xs
-position-below p [] at e = absurd (cc)
-position-below p (x ∷ xs) at e = (position-Some p (x ∷ xs) at x e).0
 
 pub position-within : {X : Type 0} (p : X → Bool) (xs : List X) → IfSome (position p xs) (λ at. at < length xs)
 position-within p xs = by (position p xs) refl

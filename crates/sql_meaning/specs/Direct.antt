@@ -1,17 +1,16 @@
 -- The direct meaning of a SELECT: nested loops over FROM, the rows of which WHERE is TRUE, the items.
-use Rattle.std.specs.Prelude.{ℕ, Bool, true, false, not, List, [], ◌∷◌, ◌++◌, map, filter, Option, option_map, option_and_then, unwrap_or, slice_get, if◌then◌else◌}
+use Rattle.std.specs.Prelude.{ℕ, Bool, true, List, [], ◌∷◌, ◌++◌, map, filter, Option, option_map, option_and_then, unwrap_or, slice_get, if◌then◌else◌}
 use Rattle.std.specs.List.{flat_map}
 use Rattle.cal_value.specs.declared.value.Value.{Value}
 use Rattle.cal_schema.specs.declared.column.ColumnDef.{ColumnDef}
 use Rattle.cal_schema.specs.declared.database.Db.{Db}
 use Rattle.cal_schema.specs.declared.schema.Schema.{Schema}
 use Rattle.sql_text.specs.declared.select.FromEntry.{FromEntry}
-use Rattle.sql_text.specs.declared.select.Item.{Item}
 use Rattle.sql_text.specs.declared.select.Items.{Items}
 use Rattle.sql_text.specs.declared.select.Items.TheVariants.{Star, Listed}
 use Rattle.sql_text.specs.declared.select.Select.{Select}
 use Rattle.sql_text.specs.declared.tree.Tree.{Tree}
-use Rattle.sql_meaning.specs.Scope.{Header, number_of, header_of, is_among}
+use Rattle.sql_meaning.specs.Scope.{number_of, header_of, is_among}
 use Rattle.sql_meaning.specs.Value.{Bound, value, is_true}
 
 -- the rows of the entry's table

@@ -1,5 +1,5 @@
 -- What the names of a SELECT stand for: entries of FROM, tables and columns.
-use Rattle.std.specs.Prelude.{ℕ, ◌+◌, Bool, not, List, [], ◌∷◌, length, map, filter, position, Option, Some, None, option_map, option_and_then, unwrap_or, slice_get, if◌then◌else◌}
+use Rattle.std.specs.Prelude.{ℕ, ◌+◌, Bool, not, List, [], ◌∷◌, length, map, position, Option, Some, None, option_map, option_and_then, unwrap_or, slice_get, if◌then◌else◌}
 use Rattle.std.specs.List.{list_any, flat_map}
 use Rattle.cal_value.specs.declared.kind.SqlType.{SqlType}
 use Rattle.cal_schema.specs.declared.column.ColumnDef.{ColumnDef}

@@ -1,5 +1,5 @@
 -- What an expression means, given the rows of the entries of FROM that its names speak of.
-use Rattle.std.specs.Prelude.{ℕ, ◌≡◌, Bool, false, List, [], ◌∷◌, Option, option_map, unwrap_or}
+use Rattle.std.specs.Prelude.{Bool, false, List, [], ◌∷◌, option_map, unwrap_or}
 use Rattle.cal_value.specs.declared.value.Value.{Value}
 use Rattle.cal_value.specs.declared.value.Value.TheVariants.{Null, Bool as BoolValue, Int, Text}
 use Rattle.cal_value.specs.Logic.{not3, truth_of, value_of, is_null}

@@ -5,9 +5,6 @@
 mod columns;
 mod misfit;
 
-pub use columns::column_place;
-pub use misfit::Misfit;
-
 ghost use Rattle.std.specs.Prelude.{◌≡◌, [], ◌∷◌, map, filter};
 ghost use Rattle.cal_schema.specs.declared.database.Db.{Db};
 ghost use Rattle.cal_schema.specs.declared.schema.Schema.{Schema};
@@ -15,10 +12,13 @@ ghost use Rattle.sql_text.specs.declared.select.FromEntry.{FromEntry};
 ghost use Rattle.sql_text.specs.declared.select.Select.{Select};
 ghost use Rattle.sql_meaning.specs.Direct.{direct, rows_of, bound, passes, item_values};
 
+pub use columns::column_place;
+pub use misfit::Misfit;
+
 /// Over one entry of FROM a SELECT means the items of each row of the table of which WHERE is TRUE, in the table's order.
 #[tactic(auto, using(crate::proofs::OneEntry::direct_of_one))]
 pub fn one_entry_is_one_walk()
     ensures { (select : Select) (schema : Schema) (db : Db) (entry : FromEntry) → select.from ≡ entry ∷ [] →
         direct select schema db ≡ map (λ row. item_values select.items (bound schema entry row ∷ []))
-            (filter (λ row. passes select.filter (bound schema entry row ∷ [])) (rows_of schema db entry)) }
+        (filter (λ row. passes select.filter (bound schema entry row ∷ [])) (rows_of schema db entry)) }
 {}

@@ -1,13 +1,13 @@
 -- Places of columns among those of all entries.
-use Rattle.std.proofs.Common.{◌≡◌, ◌<◌, ◌+◌, ◌∙◌, ap, refl, length-append, ℕ, Bool, true, false, cond, arith, List, [], ◌∷◌, ◌++◌, length, map, Option, Some, None, option_map, unwrap_or}
+use Rattle.std.proofs.Common.{◌≡◌, ◌<◌, ◌+◌, ◌∙◌, ap, refl, length-append, ℕ, Bool, true, false, cond, arith, List, [], ◌∷◌, length, map, Option, Some, None, option_map, unwrap_or}
 use Rattle.std.specs.Prelude.{position}
 use Rattle.std.proofs.lemmas.List.{length-map}
-use Rattle.std.specs.List.{flat_map}
 use Rattle.cal_schema.specs.declared.column.ColumnDef.{ColumnDef}
 use Rattle.cal_schema.specs.Lookup.{is_same_name}
+use Rattle.cal_schema.proofs.NameLemmas.{position-below}
 use Rattle.sql_text.specs.declared.tree.ColumnName.{ColumnName}
 use Rattle.sql_meaning.specs.Scope.{Header, single, is_searched, place_in, place_of, types_in}
-use Rattle.sql_meaning.proofs.OnePlace.{position-below, types-single}
+use Rattle.sql_meaning.proofs.OnePlace.{types-single}
 
 pub length-single : (alias : List ℕ) (columns : List ColumnDef) → length (types_in (single alias columns)) ≡ length columns
 length-single alias columns = ap length (types-single alias columns) ∙ length-map columns (λ c. c.kind)

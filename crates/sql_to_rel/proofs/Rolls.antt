@@ -1,11 +1,9 @@
 -- Types and values of expressions, variant by variant.
-use Rattle.std.proofs.Common.{◌≡◌, ◌∙◌, sym, ap, ℕ, List, Option, slice_get}
-use Rattle.std.specs.Option.{option_and_then, option_map}
-use Rattle.cal_value.specs.declared.kind.SqlType.{SqlType}
+use Rattle.std.proofs.Common.{◌≡◌, ◌∙◌, sym, ap, ℕ}
 use Rattle.cal_value.specs.declared.operator.Op.{Op}
 use Rattle.cal_value.specs.declared.value.Value.{Value}
 use Rattle.cal_expr.specs.declared.expr.Expr.{Expr}
-use Rattle.cal_expr.specs.declared.expr.Expr.TheFolds.{fold-Expr, fold-roll-Expr, map-Expr}
+use Rattle.cal_expr.specs.declared.expr.Expr.TheFolds.{fold-Expr, fold-roll-Expr}
 use Rattle.cal_expr.specs.declared.expr.Expr.TheOpen.{Expr-F}
 use Rattle.cal_expr.specs.declared.expr.Expr.TheVariants.{Column, Literal, Negate, Binary, Not, IsNull, rolls-Column, rolls-Literal, rolls-Negate, rolls-Binary, rolls-Not, rolls-IsNull}
 

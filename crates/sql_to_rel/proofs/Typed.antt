@@ -1,7 +1,7 @@
 -- A tree of known columns in which kinds go together and everything fits has a type, which is of its kind.
 use Rattle.std.proofs.Common.{◌≡◌, ◌<◌, ◌∙◌, sym, ap, subst, refl, arith, ℕ, zero, suc, ℤ, ◌+ℤ◌, ◌-ℤ◌, ◌*ℤ◌, Bool, true, false, cond, ◌&&◌, List, [], ◌∷◌, ◌++◌, length, find, Option, Some, None, slice_get, unwrap_or, option_map}
 use Rattle.std.specs.Int.RustNames.{int_div}
-use Rattle.std.specs.Option.{option_and_then, option_or, is_none, IsSomeAnd}
+use Rattle.std.specs.Option.{option_and_then, is_none, IsSomeAnd}
 use Rattle.std.proofs.lemmas.List.Folds.{find-append}
 use Rattle.cal_value.specs.declared.interval.Interval.{Interval}
 use Rattle.cal_value.specs.declared.interval.Interval.TheVariants.{Never, Range}
@@ -21,18 +21,14 @@ use Rattle.sql_text.specs.declared.tree.Tree.{Tree}
 use Rattle.sql_text.specs.declared.tree.Tree.TheFolds.{fold-roll-Tree, ind-Tree, map-Tree}
 use Rattle.sql_text.specs.declared.tree.Tree.TheOpen.{Tree-F}
 use Rattle.sql_text.specs.declared.tree.Tree.TheViews.{roll-Tree}
-use Rattle.sql_meaning.specs.declared.misfit.Misfit.{Misfit}
 use Rattle.sql_meaning.specs.Kinds.{Kinded, kinded, kinded_step, literal_kinded, unless, is_of_kind, not_boolean, op_kind, op_clash, arithmetic_clash}
 use Rattle.sql_meaning.specs.Refused.{columns_in, columns_step, is_unknown_column}
 use Rattle.sql_meaning.specs.Scope.{Header, place_of, type_in, types_in}
-use Rattle.sql_meaning.specs.Sizes.{Sized, sized, sized_step, own, told, quotient_own, op_own, of_part, of_parts, column_own, literal_own}
+use Rattle.sql_meaning.specs.Sizes.{Sized, sized, sized_step, own, told, quotient_own, op_own, of_part, of_parts, column_own}
+use Rattle.sql_meaning.proofs.Nothing.{both-empty, or-none}
 use Rattle.sql_to_rel.proofs.Places.{place_of-within}
 
 -- ---- nothing is told
-
-both-empty : {A : Type 0} (xs ys : List A) → xs ++ ys ≡ [] → (xs ≡ []) × (ys ≡ [])
-both-empty [] ys e = (refl, e)
-both-empty (x ∷ xs) ys e = absurd (cc)
 
 unless-right : (b : Bool) (place : ℕ) → unless b place ≡ [] → b ≡ true
 unless-right true place e = refl
@@ -56,6 +52,7 @@ same k l e f = ap (λ m. same_kind m Integer) (e ∙ f)
 
 truth : (k l : Kind) → k ≡ l → l ≡ Boolean → same_kind k Boolean ≡ true
 truth k l e f = ap (λ m. same_kind m Boolean) (e ∙ f)
+
 -- ---- what holds of a part
 
 abbrev IsTyped : Kinded → Sized → Type 0
@@ -176,20 +173,16 @@ ops-typed place op a b None p h k e f = absurd h
 ops-typed place op a b (Some s) None h k e f = absurd k
 ops-typed place op a b (Some s) (Some t) h k e f = op-typed place op a b s t h k e f
 
-or-none : {A : Type 0} (o p : Option A) → option_or o p ≡ None → (o ≡ None) × (p ≡ None)
-or-none None p e = (refl, e)
-or-none (Some x) p e = absurd (cc)
-
 binary-sound : (scope : List Header) (place : ℕ) (op : Op) (c d : List ColumnName) (a b : Kinded) (s t : Sized) → Sound scope c a s → Sound scope d b t
     → Sound scope (c ++ d) (kinded_step scope (Tree-F.Binary place op a b)) (sized_step scope (Tree-F.Binary place op s t))
 binary-sound scope place op c d a b s t h k = record {
   typed = λ known right fits.
-    let n = or-none (find (is_unknown_column scope) c) (find (is_unknown_column scope) d) (sym (find-append (is_unknown_column scope) c d) ∙ known) in
-    let r = both-empty (a.clashes ++ op_clash place op a b) b.clashes right in
-    let q = both-empty a.clashes (op_clash place op a b) r.0 in
-    let f = both-empty (s.misfits ++ of_parts (op_own place op) s.type t.type) t.misfits fits in
-    let g = both-empty s.misfits (of_parts (op_own place op) s.type t.type) f.0 in
-    ops-typed place op a b s.type t.type (h.typed n.0 q.0 g.0) (k.typed n.1 r.1 f.1) q.1 g.1;
+      let n = or-none (find (is_unknown_column scope) c) (find (is_unknown_column scope) d) (sym (find-append (is_unknown_column scope) c d) ∙ known) in
+      let r = both-empty (a.clashes ++ op_clash place op a b) b.clashes right in
+      let q = both-empty a.clashes (op_clash place op a b) r.0 in
+      let f = both-empty (s.misfits ++ of_parts (op_own place op) s.type t.type) t.misfits fits in
+      let g = both-empty s.misfits (of_parts (op_own place op) s.type t.type) f.0 in
+      ops-typed place op a b s.type t.type (h.typed n.0 q.0 g.0) (k.typed n.1 r.1 f.1) q.1 g.1;
 }
 
 -- ---- a whole tree
@@ -205,15 +198,15 @@ level scope (Tree-F.Column place name) = record { typed = λ known right fits. l
 level scope (Tree-F.Literal place v) = literal-sound scope place v
 level scope (Tree-F.Negate place a) = record {
   typed = λ known right fits.
-    let r = both-empty (unless (is_of_kind Integer (kinded scope a.0)) place) (kinded scope a.0).clashes right in
-    let f = both-empty (of_part (λ t. own place (negated t.interval)) (sized scope a.0).type) (sized scope a.0).misfits fits in
-    negation-typed place (kinded scope a.0) (sized scope a.0).type (a.1.typed known r.1 f.1) (unless-right (is_of_kind Integer (kinded scope a.0)) place r.0) f.0;
+      let r = both-empty (unless (is_of_kind Integer (kinded scope a.0)) place) (kinded scope a.0).clashes right in
+      let f = both-empty (of_part (λ t. own place (negated t.interval)) (sized scope a.0).type) (sized scope a.0).misfits fits in
+      negation-typed place (kinded scope a.0) (sized scope a.0).type (a.1.typed known r.1 f.1) (unless-right (is_of_kind Integer (kinded scope a.0)) place r.0) f.0;
 }
 level scope (Tree-F.Binary place op a b) = binary-sound scope place op (columns_in a.0) (columns_in b.0) (kinded scope a.0) (kinded scope b.0) (sized scope a.0) (sized scope b.0) a.1 b.1
 level scope (Tree-F.Not place a) = record {
   typed = λ known right fits.
-    let r = both-empty (not_boolean (kinded scope a.0)) (kinded scope a.0).clashes right in
-    not-typed (kinded scope a.0) (sized scope a.0).type (a.1.typed known r.1 fits) (unless-right (is_of_kind Boolean (kinded scope a.0)) (kinded scope a.0).place r.0);
+      let r = both-empty (not_boolean (kinded scope a.0)) (kinded scope a.0).clashes right in
+      not-typed (kinded scope a.0) (sized scope a.0).type (a.1.typed known r.1 fits) (unless-right (is_of_kind Boolean (kinded scope a.0)) (kinded scope a.0).place r.0);
 }
 level scope (Tree-F.IsNull place a) = record { typed = λ known right fits. null-typed (kinded scope a.0).kind (sized scope a.0).type (a.1.typed known right fits) }
 level scope (Tree-F.Aggregate place agg a) = record { typed = λ known right fits. absurd (cc) }

@@ -1,25 +1,20 @@
 -- The value of the expression that a tree stands for.
-use Rattle.std.proofs.Common.{◌≡◌, ◌<◌, ◌≤◌, ◌+◌, ◌∙◌, sym, ap, subst, refl, ℕ, zero, suc, true, false, cond, inl, Bool, arith, zero-add, length-append, List, [], ◌∷◌, ◌++◌, length, map, Option, Some, None, slice_get, unwrap_or, option_map, All}
-use Rattle.std.specs.Prelude.{position}
+use Rattle.std.proofs.Common.{◌≡◌, ◌<◌, ◌+◌, ◌∙◌, sym, ap, subst, refl, ℕ, zero, suc, arith, zero-add, List, [], ◌∷◌, ◌++◌, length, map, Option, Some, None, unwrap_or, option_map}
 use Rattle.std.proofs.lemmas.List.Elements.{All-head, All-tail}
 use Rattle.sql_to_rel.proofs.Places.{length-types, place_in-within}
-use Rattle.std.specs.List.{flat_map}
 use Rattle.cal_value.specs.declared.value.Value.{Value}
 use Rattle.cal_value.specs.declared.value.Value.TheVariants.{Null, Bool as BoolValue}
 use Rattle.cal_value.specs.Logic.{not3, truth_of, value_of, is_null}
 use Rattle.cal_value.specs.Order.{column_of}
 use Rattle.cal_expr.specs.declared.expr.Expr.{Expr}
 use Rattle.cal_expr.specs.Meaning.{meaning_of, meaning_step, applied, negated}
-use Rattle.cal_schema.specs.declared.column.ColumnDef.{ColumnDef}
-use Rattle.cal_schema.specs.Lookup.{is_same_name}
 use Rattle.sql_text.specs.declared.tree.ColumnName.{ColumnName}
 use Rattle.sql_text.specs.declared.tree.Tree.{Tree}
 use Rattle.sql_text.specs.declared.tree.Tree.TheFolds.{fold-roll-Tree, ind-Tree, map-Tree}
 use Rattle.sql_text.specs.declared.tree.Tree.TheOpen.{Tree-F}
 use Rattle.sql_text.specs.declared.tree.Tree.TheViews.{roll-Tree}
-use Rattle.sql_meaning.specs.Scope.{Header, is_searched, place_in, place_of, types_in}
+use Rattle.sql_meaning.specs.Scope.{Header, place_in, place_of, types_in}
 use Rattle.sql_meaning.specs.Value.{Bound, look_up, value, value_step}
-use Rattle.sql_meaning.proofs.OnePlace.{position-below}
 use Rattle.sql_to_rel.specs.Numbered.{numbered, numbered_step, column_at, flat, IsFull, AreFull}
 use Rattle.sql_to_rel.proofs.Rolls.{fold-Column, fold-Literal, fold-Negate, fold-Binary, fold-Not, fold-IsNull}
 

@@ -39,7 +39,10 @@ pub fn expression(
             Expr::negate(alloc, operand)
         }
         Tree::Binary {
-            op, left, right, ..
+            op,
+            left,
+            right,
+            ..
         } => {
             let left = expression(alloc, left.get(), alias, columns)?;
             let right = expression(alloc, right.get(), alias, columns)?;

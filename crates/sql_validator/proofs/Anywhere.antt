@@ -1,5 +1,5 @@
 -- Quantifiers over the trees of a SELECT.
-use Rattle.std.proofs.Common.{◌≡◌, refl, ap, sym, ◌∙◌, map, Bool, true, false, ◌||◌, ◌&&◌, not, List, [], ◌∷◌, ◌++◌}
+use Rattle.std.proofs.Common.{◌≡◌, refl, ap, sym, ◌∙◌, map, Bool, true, false, ◌||◌, List, [], ◌∷◌, ◌++◌}
 use Rattle.std.specs.List.{list_any}
 use Rattle.sql_text.specs.declared.select.Item.{Item}
 use Rattle.sql_meaning.specs.Refused.{has_aggregate}

@@ -1,7 +1,6 @@
 -- The type of a column of one entry of FROM.
-use Rattle.std.proofs.Common.{◌≡◌, ◌<◌, ◌∙◌, ap, sym, refl, arith, ℕ, zero, suc, List, [], ◌∷◌, length, map, get_or, Option, Some, None, slice_get}
+use Rattle.std.proofs.Common.{◌≡◌, ◌<◌, ◌∙◌, ap, sym, refl, arith, ℕ, zero, suc, List, [], ◌∷◌, length, map, get_or, Some, None, slice_get}
 use Rattle.std.specs.Option.{option_and_then}
-use Rattle.cal_value.specs.declared.kind.SqlType.{SqlType}
 use Rattle.cal_schema.specs.declared.column.ColumnDef.{ColumnDef}
 use Rattle.sql_text.specs.declared.tree.ColumnName.{ColumnName}
 use Rattle.sql_meaning.specs.Scope.{single, place_of, type_in, types_in}

@@ -7,7 +7,7 @@ use Rattle.cal_value.specs.declared.operator.Op.{Op}
 use Rattle.sql_text.specs.declared.select.Item.{Item}
 use Rattle.sql_text.specs.declared.tree.ColumnName.{ColumnName}
 use Rattle.sql_text.specs.declared.tree.Tree.{Tree}
-use Rattle.sql_text.specs.declared.tree.Tree.TheFolds.{fold-roll-Tree, map-Tree}
+use Rattle.sql_text.specs.declared.tree.Tree.TheFolds.{fold-roll-Tree}
 use Rattle.sql_text.specs.declared.tree.Tree.TheOpen.{Tree-F}
 use Rattle.sql_text.specs.declared.tree.Tree.TheVariants.{Binary, rolls-Binary}
 use Rattle.sql_meaning.specs.Refused.{columns_in, columns_step}

@@ -5,4 +5,3 @@ pub mod Lowest
 pub mod Named
 pub mod Nearest
 pub mod Parts
-pub mod Scopes

@@ -1,5 +1,5 @@
 -- The lowest place of what stands in parts.
-use Rattle.std.proofs.Common.{◌≡◌, ◌∙◌, ap, sym, refl, arith, ◌<◌, ◌+◌, length, take, get_or, ℕ, Bool, true, false, cond, List, [], ◌∷◌, ◌++◌, Option, Some, None}
+use Rattle.std.proofs.Common.{◌≡◌, ◌∙◌, ap, sym, refl, arith, ◌<◌, ◌+◌, length, take, get_or, ℕ, cond, List, [], ◌∷◌, ◌++◌, Option, Some, None}
 use Rattle.std.specs.Prelude.{nat_lt}
 use Rattle.std.proofs.lemmas.Bool.Decides.{nat_tests}
 use Rattle.cal_value.specs.declared.operator.Op.{Op}
@@ -7,7 +7,7 @@ use Rattle.cal_value.specs.declared.operator.Op.TheVariants.{Add, Subtract, Mult
 use Rattle.cal_value.specs.declared.kind.Kind.{Kind}
 use Rattle.sql_text.specs.declared.select.Item.{Item}
 use Rattle.sql_text.specs.declared.tree.Tree.{Tree}
-use Rattle.sql_text.specs.declared.tree.Tree.TheFolds.{fold-roll-Tree, map-Tree}
+use Rattle.sql_text.specs.declared.tree.Tree.TheFolds.{fold-roll-Tree}
 use Rattle.sql_text.specs.declared.tree.Tree.TheOpen.{Tree-F}
 use Rattle.sql_text.specs.declared.tree.Tree.TheVariants.{Binary, rolls-Binary}
 use Rattle.sql_meaning.specs.Kinds.{Kinded, kinded, kinded_step, clashes, op_kind, op_clash}

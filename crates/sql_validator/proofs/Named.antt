@@ -1,6 +1,6 @@
 -- Names that are made.
-use Rattle.std.proofs.Common.{◌≡◌, ◌<◌, ◌≤◌, ◌+◌, ◌^◌, ◌∙◌, ap, sym, refl, lit<, add-zero, zero-add, add-one, take, get_or, arith, ℕ, List, [], ◌∷◌, ◌++◌, length, map, append-nil, length-append}
-use Rattle.std.specs.Prelude.{codes, decimal}
+use Rattle.std.proofs.Common.{◌≡◌, ◌<◌, ◌≤◌, ◌+◌, ◌^◌, ◌∙◌, ap, sym, refl, lit<, add-zero, zero-add, add-one, take, get_or, arith, ℕ, List, [], ◌∷◌, ◌++◌, length, map, append-nil}
+use Rattle.std.specs.Prelude.{decimal}
 use Rattle.std.proofs.Math.Seq.{take-suc}
 use Rattle.std.proofs.lemmas.List.{length-take-le}
 use Rattle.std.proofs.lemmas.Fmt.{length-decimal-le}

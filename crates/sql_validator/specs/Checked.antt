@@ -1,5 +1,5 @@
 -- What an accepted SELECT has.
-use Rattle.std.specs.Prelude.{◌≡◌, List, map, Some, None}
+use Rattle.std.specs.Prelude.{◌≡◌, map, Some, None}
 use Rattle.cal_schema.specs.declared.schema.Schema.{Schema}
 use Rattle.sql_text.specs.declared.select.Select.{Select}
 use Rattle.sql_meaning.specs.Names.{output_names}

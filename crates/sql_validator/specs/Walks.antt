@@ -1,13 +1,8 @@
 -- What one walk over a tree tells: of the places that don't go together or fit, the one that counts.
-use Rattle.std.specs.Prelude.{ℕ, List, [], ◌++◌, Option, Some, None, map}
-use Rattle.std.specs.List.{flat_map}
+use Rattle.std.specs.Prelude.{ℕ, List, [], Option, Some, None}
 use Rattle.std.specs.Option.{option_or}
-use Rattle.cal_value.specs.declared.kind.Kind.{Kind}
-use Rattle.cal_value.specs.declared.kind.SqlType.{SqlType}
 use Rattle.cal_schema.specs.declared.refusal.Refusal.{Refusal}
-use Rattle.sql_text.specs.declared.select.Item.{Item}
 use Rattle.sql_text.specs.declared.select.Select.{Select}
-use Rattle.sql_text.specs.declared.tree.Tree.{Tree}
 use Rattle.sql_meaning.specs.declared.misfit.Misfit.{Misfit}
 use Rattle.sql_meaning.specs.Kinds.{Kinded}
 use Rattle.sql_meaning.specs.Refused.{lower, lowest, nearer, nearest, unknown_column, type_clash, may_not_fit}

@@ -1,7 +1,6 @@
 //! Where kinds don't go together.
 ghost use Rattle.std.specs.Prelude.{◌≡◌, map, option_map};
 ghost use Rattle.std.specs.List.{flat_map};
-ghost use Rattle.cal_value.specs.Types as types;
 ghost use Rattle.sql_meaning.specs.Kinds as spec;
 ghost use Rattle.sql_meaning.specs.Kinds.{kinded, clashes, condition_clashes};
 ghost use Rattle.sql_meaning.specs.Refused.{all_clashes, item_trees, listed, lowest};
@@ -10,6 +9,7 @@ ghost use Rattle.sql_validator.specs.Walks as walks;
 ghost use Rattle.sql_validator.specs.Walks.{judged_of, bare};
 
 use crate::columns::column_type;
+use cal_expr::is_same_kind;
 use cal_schema::ColumnDef;
 use cal_value::{Kind, Op, SqlText, Value};
 use sql_text::{ColumnName, Item, Items, Select, Tree};
@@ -20,15 +20,6 @@ pub(crate) struct Judged {
     pub(crate) kind: Kind,
     pub(crate) place: u64,
     pub(crate) clash: Option<u64>,
-}
-
-fn is_same_kind(a: Kind, b: Kind) -> bool
-    ensures { result ≡ types.same_kind a b }
-{
-    matches!(
-        (a, b),
-        (Kind::Boolean, Kind::Boolean) | (Kind::Integer, Kind::Integer) | (Kind::Text, Kind::Text)
-    )
 }
 
 fn lower_of(a: Option<u64>, b: Option<u64>) -> Option<u64>

@@ -1,4 +1,4 @@
-use Rattle.std.proofs.Common.{◌≡◌, ap, sym, ◌∙◌, ℕ, List, length, get_or, map, Some}
+use Rattle.std.proofs.Common.{ap, sym, ◌∙◌, ℕ, List, length, get_or, map, Some}
 use Rattle.cal_schema.specs.declared.table.TableDef.{TableDef}
 use Rattle.session_lane.proofs.Answered.{AreMade, all_ready, all_answered}
 use Rattle.session_lane.proofs.Tables.{IsOver, is_over, rows-long, rows-there}
