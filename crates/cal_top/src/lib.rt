@@ -17,3 +17,5 @@ pub use query::run_query;
 pub use record::{QueryRecord, TopFault};
 pub use session_lane::{Answer, Cause, Reply};
 
+#[cfg(test)]
+mod tests;

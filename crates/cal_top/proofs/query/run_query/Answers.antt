@@ -16,7 +16,7 @@ returns-in-None-clause-run g c = (
 pub returns-in-Some-clause-complete : goal.returns-in-Some-clause-complete
 returns-in-Some-clause-complete g c =
     λ valid calm still. fine_end _ _ _ _ _ _ _
-        (calm_when_valid (g.S.Store.files c.args.store.now) (g.S.Store.faults c.args.store.now) (g.S.Store.faults c.look-fault.new.store)
-            (g.S.Store.broken c.args.store.now) (g.S.Store.broken c.look-fault.new.store) c.args.words.now
-            c.look-fault.result.fault c.look-fault.result.files c.look-fault.result.db c.look-fault.result.reply valid calm c.look-fault.ensures.cause)
-        still c.finish.ensures.ends
+    (calm_when_valid (g.S.Store.files c.args.store.now) (g.S.Store.faults c.args.store.now) (g.S.Store.faults c.look-fault.new.store)
+    (g.S.Store.broken c.args.store.now) (g.S.Store.broken c.look-fault.new.store) c.args.words.now
+    c.look-fault.result.fault c.look-fault.result.files c.look-fault.result.db c.look-fault.result.reply valid calm c.look-fault.ensures.cause)
+    still c.finish.ensures.ends

@@ -1,0 +1,4 @@
+mod devices;
+mod files;
+mod queries;
+mod run;
