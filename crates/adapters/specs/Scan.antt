@@ -1,37 +1,20 @@
 -- What a scan answers: the request's columns of the rows that pass all its tests, in order.
-use Rattle.std.specs.Prelude.{◌≡◌, ℕ, ◌&&◌, Bool, false, not, List, [], map, filter, unwrap_or, slice_get, ⊤}
+use Rattle.std.specs.Prelude.{◌≡◌, ℕ, ◌&&◌, Bool, not, List, [], map, filter, unwrap_or, slice_get, ⊤}
 use Rattle.std.specs.List.{list_all}
-use Rattle.std.specs.Ordering.{is_lt, is_le, is_eq, is_gt, is_ge}
-use Rattle.std.specs.declared.cmp.Ordering.{Ordering}
 use Rattle.cal_value.specs.declared.operator.Op.{Op}
-use Rattle.cal_value.specs.declared.operator.Op.TheVariants.{Add, Subtract, Multiply, Divide, Equal, NotEqual, Less, LessEqual, Greater, GreaterEqual, And, Or}
 use Rattle.cal_value.specs.declared.value.Value.{Value}
 use Rattle.cal_value.specs.Logic.{is_null}
 use Rattle.cal_value.specs.Order.{column_of, value_cmp}
+use Rattle.cal_expr.specs.Meaning.{passes as holds}
 use Rattle.cal_snapshot.specs.Parts.{Parts}
 use Rattle.adapters.specs.declared.request.ColumnTest.{ColumnTest}
 use Rattle.adapters.specs.declared.request.ScanRequest.{ScanRequest}
 use Rattle.adapters.specs.declared.adapter.AnyAdapter.{AnyAdapter}
 use Rattle.adapters.specs.declared.adapter.AnyAdapter.TheVariants.{Csv, Mem}
 
--- the comparison holds of two values in this order; no other operator does
-abbrev pub agrees : Op → Ordering → Bool
-agrees Equal o = is_eq o
-agrees NotEqual o = not (is_eq o)
-agrees Less o = is_lt o
-agrees LessEqual o = is_le o
-agrees Greater o = is_gt o
-agrees GreaterEqual o = is_ge o
-agrees Add o = false
-agrees Subtract o = false
-agrees Multiply o = false
-agrees Divide o = false
-agrees And o = false
-agrees Or o = false
-
 -- the comparison is true: it is unknown where one of the two is NULL
 abbrev pub is_met : Op → Value → Value → Bool
-is_met op a b = not (is_null a) && (not (is_null b) && agrees op (value_cmp a b))
+is_met op a b = not (is_null a) && (not (is_null b) && holds op (value_cmp a b))
 
 abbrev pub passes : List Value → ColumnTest → Bool
 passes row test = is_met test.op (column_of row test.column) test.literal

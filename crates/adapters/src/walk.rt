@@ -8,7 +8,6 @@ use crate::request::{ColumnTest, ScanRequest};
 use cal_snapshot::{Part, Snapshot};
 use cal_value::{Duplicate, List, NoMemory, Op, Row, Steps, Value, compare_values};
 use std::alloc::Global;
-use std::cmp::Ordering;
 use std::sync::ledger::Ledger;
 
 /// Takes each row of the table, and answers the wanted columns of those that pass.
@@ -76,21 +75,7 @@ fn passes(test: &ColumnTest, row: &Row) -> bool
 fn is_met(op: Op, value: &Value, literal: &Value) -> bool
     ensures { result ≡ spec.is_met op value.now literal.now }
 {
-    !value.is_null() && !literal.is_null() && agrees(op, compare_values(value, literal))
-}
-
-fn agrees(op: Op, order: Ordering) -> bool
-    ensures { result ≡ spec.agrees op order }
-{
-    match op {
-        Op::Equal => order.is_eq(),
-        Op::NotEqual => order.is_ne(),
-        Op::Less => order.is_lt(),
-        Op::LessEqual => order.is_le(),
-        Op::Greater => order.is_gt(),
-        Op::GreaterEqual => order.is_ge(),
-        Op::Add | Op::Subtract | Op::Multiply | Op::Divide | Op::And | Op::Or => false,
-    }
+    !value.is_null() && !literal.is_null() && cal_expr::passes(op, compare_values(value, literal))
 }
 
 fn picked(alloc: Global, columns: &List<u32>, row: &Row) -> Result<Row, NoMemory>

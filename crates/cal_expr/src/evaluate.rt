@@ -67,7 +67,8 @@ fn negate(a: &Value) -> Value
     }
 }
 
-fn passes(op: Op, order: Ordering) -> bool
+/// Whether the comparison holds of two values in this order. An operator that compares nothing never does.
+pub fn passes(op: Op, order: Ordering) -> bool
     ensures { result ≡ spec.passes op order }
 {
     match op {

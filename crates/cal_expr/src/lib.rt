@@ -7,7 +7,7 @@ pub mod laws;
 mod typing;
 
 pub use cal_value::Op;
-pub use evaluate::eval;
+pub use evaluate::{eval, passes};
 pub use expr::Expr;
 pub use typing::{
     column_type, expr_type, is_same_kind, literal_type, negation_type, not_type, op_type,

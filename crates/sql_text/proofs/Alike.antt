@@ -1,15 +1,12 @@
 -- Statements that differ in places alone are printed alike.
-use Rattle.std.proofs.Common.{◌≡◌, ℕ, Option, Some, None, List, [], ◌∷◌, ◌++◌, length, map, refl, sym, ap, ◌∙◌, subst}
+use Rattle.std.proofs.Common.{◌≡◌, Option, Some, None, List, [], ◌∷◌, ◌++◌, length, map, refl, sym, ap, ◌∙◌, subst}
 use Rattle.std.specs.List.{flat_map}
 use Rattle.std.specs.Option.{option_map}
-use Rattle.cal_value.specs.declared.operator.Op.{Op}
-use Rattle.cal_value.specs.declared.operator.Agg.{Agg}
-use Rattle.sql_text.specs.declared.token.Token.{Token}
 use Rattle.sql_text.specs.declared.tree.Tree.{Tree}
 use Rattle.sql_text.specs.declared.tree.Tree.TheFolds.{fold-roll-Tree, ind-Tree, map-Tree}
 use Rattle.sql_text.specs.declared.tree.Tree.TheOpen.{Tree-F}
 use Rattle.sql_text.specs.declared.tree.Tree.TheViews.{roll-Tree}
-use Rattle.sql_text.specs.declared.tree.Tree.TheVariants.{Column, Literal, Negate, Binary, Not, IsNull, Aggregate, rolls-Column, rolls-Literal, rolls-Negate, rolls-Binary, rolls-Not, rolls-IsNull, rolls-Aggregate}
+use Rattle.sql_text.specs.declared.tree.Tree.TheVariants.{rolls-Column, rolls-Literal, rolls-Negate, rolls-Binary, rolls-Not, rolls-IsNull, rolls-Aggregate}
 use Rattle.sql_text.specs.declared.token.Reserved.TheVariants.{As, On, Where, Having, Order, By, Select as SelectWord, Distinct, From, Measures, Tile, Plan, Memo, Create, Drop}
 use Rattle.sql_text.specs.declared.token.Symbol.TheVariants.{Comma}
 use Rattle.sql_text.specs.declared.token.Token.TheVariants.{Name, Word, Symbol}

@@ -1,5 +1,5 @@
 -- The token at the front, as it is defined and as it is read.
-use Rattle.std.proofs.Common.{◌≡◌, ◌≢◌, ℕ, suc, ◌+◌, ◌<◌, ◌≤◌, Bool, true, false, not, cond, ◌==◌, ◌&&◌, ◌||◌, nat_lt, ◌⊎◌, inl, inr, Option, Some, None, option_map, List, [], ◌∷◌, ◌++◌, length, drop, slice_index, ℤ, refl, sym, ap, ◌∙◌, subst, arith, rules, append_assoc, if◌then◌else◌}
+use Rattle.std.proofs.Common.{◌≡◌, ◌≢◌, ℕ, ◌<◌, ◌≤◌, Bool, true, false, ◌==◌, ◌||◌, inl, inr, Option, Some, None, option_map, List, [], ◌∷◌, ◌++◌, length, drop, slice_index, ℤ, refl, sym, ap, ◌∙◌, subst, arith, if◌then◌else◌}
 use Rattle.std.specs.Char.{is_ascii_digit}
 use Rattle.std.proofs.lemmas.Bool.Decides.{nat_tests}
 use Rattle.sql_text.specs.declared.token.Reserved.{Reserved}
@@ -8,11 +8,11 @@ use Rattle.sql_text.specs.declared.token.Symbol.TheVariants.{Comma, Dot, Open, C
 use Rattle.sql_text.specs.declared.token.Token.{Token}
 use Rattle.sql_text.specs.declared.token.Token.TheVariants.{Name, Word, Number, Text, Symbol as SymbolToken}
 use Rattle.sql_text.specs.Spelling.{letters, reserved_of, symbol_text}
-use Rattle.sql_text.specs.Scan.{Found, named, word_at, number_at, unquoted, within, name_from, text_from, less, greater, single, symbol_of, symbol_from, token_of, skipped}
-use Rattle.sql_text.specs.Tokens.{is_blank, begins_word, continues_word, is_word, quoted, TakesWord, TakesQuoted, TakesNumber, TakesSymbol, goes_on, Begins, IsReserved}
+use Rattle.sql_text.specs.Scan.{named, word_at, number_at, unquoted, within, name_from, text_from, less, greater, single, symbol_of, symbol_from, token_of, skipped}
+use Rattle.sql_text.specs.Tokens.{is_blank, begins_word, is_word, quoted, TakesWord, TakesNumber, TakesSymbol, goes_on, Begins, IsReserved}
 use Rattle.sql_text.proofs.Quotes.{text_begins, name_begins, quoted_read, text_read, name_read}
 use Rattle.sql_text.proofs.Runs.{pair_is, begins_as, word_begins, word_read, word_first, number_begins, number_read, number_first, known, letters_short, reserved_is}
-use Rattle.sql_text.proofs.Space.{truth, both, skipped_le}
+use Rattle.sql_text.proofs.Space.{skipped_le}
 
 -- ---- symbols
 

@@ -1,11 +1,10 @@
 -- What stands in quotes, as it is defined and as it is read.
-use Rattle.std.proofs.Common.{◌≡◌, ◌≢◌, ℕ, suc, ◌+◌, ◌<◌, ◌≤◌, Bool, true, false, not, cond, ◌==◌, ◌&&◌, nat_lt, ◌⊎◌, inl, inr, Option, Some, None, option_map, List, [], ◌∷◌, ◌++◌, length, slice_index, refl, sym, ap, ◌∙◌, subst, arith, rules, append_assoc, if◌then◌else◌}
+use Rattle.std.proofs.Common.{◌≡◌, ◌≢◌, ℕ, ◌<◌, ◌≤◌, Bool, true, false, cond, ◌==◌, nat_lt, inr, Some, None, List, [], ◌∷◌, ◌++◌, length, slice_index, refl, sym, ap, ◌∙◌, subst, arith, append_assoc, if◌then◌else◌}
 use Rattle.std.proofs.lemmas.Bool.Decides.{nat_tests}
 use Rattle.sql_text.specs.declared.token.Token.{Token}
 use Rattle.sql_text.specs.declared.token.Token.TheVariants.{Name, Text}
 use Rattle.sql_text.specs.Scan.{Found, Inside, with_front, unquoted, within, name_from, text_from}
-use Rattle.sql_text.specs.Tokens.{doubled, quoted, TakesQuoted, Begins}
-use Rattle.sql_text.proofs.Space.{truth, both}
+use Rattle.sql_text.specs.Tokens.{doubled, TakesQuoted, Begins}
 use Rattle.sql_text.proofs.Runs.{pair_is, begins_as}
 
 -- cs is the doubled inside, its end, and rest

@@ -1,24 +1,24 @@
 -- Words and numbers at the front, as they are defined and as they are read.
-use Rattle.std.proofs.Common.{◌≡◌, ◌≢◌, ℕ, zero, suc, ◌+◌, ◌<◌, ◌≤◌, Bool, true, false, not, cond, ◌==◌, ◌&&◌, ◌||◌, nat_lt, ◌⊎◌, inl, inr, Option, Some, None, List, [], ◌∷◌, ◌++◌, length, map, take, drop, slice_index, refl, sym, ap, ◌∙◌, subst, arith, rules, if◌then◌else◌, ℤ, pos, add-one}
+use Rattle.std.proofs.Common.{◌≡◌, ◌≢◌, ℕ, suc, ◌+◌, ◌<◌, ◌≤◌, Bool, true, false, not, cond, ◌&&◌, nat_lt, inl, Option, Some, None, List, [], ◌∷◌, ◌++◌, length, map, take, drop, slice_index, refl, sym, ap, ◌∙◌, subst, arith, ℤ, pos}
 use Rattle.std.specs.Char.{is_ascii_digit, to_ascii_uppercase}
 use Rattle.std.specs.List.{list_all, prefix_len, find}
 use Rattle.std.specs.Str.{bytes_eq}
 use Rattle.std.specs.Str.Parse.{digits_value}
 use Rattle.std.proofs.lemmas.Bool.Decides.{nat_tests}
-use Rattle.std.proofs.lemmas.List.{length-map, length-take, take_at, drop_at, take-append-drop}
+use Rattle.std.proofs.lemmas.List.{length-map, take_at, drop_at, take-append-drop}
 use Rattle.std.proofs.lemmas.List.Folds.{length-prefix_len}
 use Rattle.std.proofs.lemmas.Slice.Eq.{bytes_eq-Decides}
 use Rattle.cal_value.specs.Interval.{limit}
 use Rattle.sql_text.specs.declared.token.Reserved.{Reserved}
 use Rattle.sql_text.specs.declared.token.Reserved.TheVariants.{Select}
 use Rattle.sql_text.specs.declared.token.Token.{Token}
-use Rattle.sql_text.specs.declared.token.Token.TheVariants.{Name, Word, Number}
+use Rattle.sql_text.specs.declared.token.Token.TheVariants.{Number}
 use Rattle.sql_text.specs.declared.words.TheConstants.{RESERVED}
 use Rattle.sql_text.specs.Spelling.{letters, reserved_of}
 use Rattle.sql_text.specs.Scan.{Found, named, word_at, number_at}
 use Rattle.sql_text.specs.Tokens.{begins_word, continues_word, is_word, TakesWord, IsReserved, TakesNumber, Begins}
 use Rattle.sql_text.proofs.Digits.{prefix_passes}
-use Rattle.sql_text.proofs.Space.{truth, both}
+use Rattle.sql_text.proofs.Space.{both}
 
 -- ---- the characters that pass a test, and the first that doesn't
 

@@ -9,7 +9,7 @@ use Rattle.std.specs.Str.{chars, IsUtf8}
 use Rattle.sql_text.specs.declared.token.Token.{Token}
 use Rattle.sql_text.specs.declared.writer.Edge.TheVariants.{Tight}
 use Rattle.sql_text.specs.declared.tree.Tree.{Tree}
-use Rattle.sql_text.specs.declared.tree.Tree.TheFolds.{fold-Tree, fold-roll-Tree}
+use Rattle.sql_text.specs.declared.tree.Tree.TheFolds.{fold-roll-Tree}
 use Rattle.sql_text.specs.declared.tree.Tree.TheOpen.{Tree-F}
 use Rattle.sql_text.specs.declared.tree.Tree.TheVariants.{Binary, rolls-Binary}
 use Rattle.sql_text.specs.Printing.{Printed, node, printed_tree, tree_tokens, at_least, op_level, left_level, op_token, binary_tokens}

@@ -1,9 +1,9 @@
 -- The text of tokens has these tokens.
-use Rattle.std.proofs.Common.{◌≡◌, ◌≢◌, ℕ, suc, ◌+◌, ◌<◌, ◌≤◌, ℤ, pos, negsuc, ◌≤ℤ◌, ◌<ℤ◌, Bool, true, false, not, cond, ◌==◌, ◌&&◌, ◌||◌, nat_lt, inl, inr, Option, Some, None, is_none, List, [], ◌∷◌, ◌++◌, length, map, slice_index, refl, sym, ap, ◌∙◌, subst, arith, rules, append-nil, if◌then◌else◌}
+use Rattle.std.proofs.Common.{◌≡◌, ◌≢◌, ℕ, ◌<◌, ◌≤◌, pos, negsuc, Bool, true, false, not, ◌==◌, ◌||◌, inl, inr, Some, is_none, List, [], ◌∷◌, ◌++◌, length, map, slice_index, refl, sym, ap, ◌∙◌, arith, if◌then◌else◌}
 use Rattle.std.specs.Char.{is_ascii_digit, is_ascii_lowercase, to_ascii_uppercase, digit_value}
-use Rattle.std.specs.Fmt.{decimal, signed_decimal}
+use Rattle.std.specs.Fmt.{decimal}
 use Rattle.std.specs.List.{list_all, AllByRecursion}
-use Rattle.std.specs.Str.Parse.{digits_value, IsNumeral, AllDigits}
+use Rattle.std.specs.Str.Parse.{AllDigits}
 use Rattle.std.proofs.lemmas.Bool.Decides.{nat_tests}
 use Rattle.std.proofs.lemmas.Int.{ints}
 use Rattle.std.proofs.lemmas.Fmt.{decimal_is_IsNumeral_wide}
@@ -11,16 +11,16 @@ use Rattle.cal_value.specs.Interval.{limit}
 use Rattle.sql_text.specs.declared.token.Reserved.{Reserved}
 use Rattle.sql_text.specs.declared.token.Reserved.TheVariants.{Select}
 use Rattle.sql_text.specs.declared.token.Symbol.{Symbol}
-use Rattle.sql_text.specs.declared.token.Symbol.TheVariants.{Comma, Dot, Open, Close, Star, Plus, Minus, Slash, Equal, NotEqual, Less, LessEqual, Greater, GreaterEqual, Semicolon}
+use Rattle.sql_text.specs.declared.token.Symbol.TheVariants.{Comma, Minus, Less, Greater}
 use Rattle.sql_text.specs.declared.token.Token.{Token}
 use Rattle.sql_text.specs.declared.token.Token.TheVariants.{Name, Word, Number, Text, Symbol as SymbolToken}
 use Rattle.sql_text.specs.declared.writer.Edge.{Edge}
 use Rattle.sql_text.specs.declared.writer.Edge.TheVariants.{Tight, Named, Called, Loose}
 use Rattle.sql_text.specs.Spelling.{letters, reserved_of, symbol_text}
-use Rattle.sql_text.specs.Tokens.{continues_word, is_word, TakesWord, IsReserved, quoted, TakesQuoted, TakesNumber, goes_on, TakesSymbol, Begins, IsToken, Skips, none, blank, Reads, token, IsEnd, nothing, HasTokens}
-use Rattle.sql_text.specs.Writing.{is_plain, spelling, is_aggregate, edge, symbol_touches, is_tight, touches, gap, text_behind, text_of}
+use Rattle.sql_text.specs.Tokens.{continues_word, is_word, IsReserved, quoted, goes_on, Begins, IsToken, Skips, none, blank, Reads, token, nothing, HasTokens}
+use Rattle.sql_text.specs.Writing.{is_plain, spelling, edge, symbol_touches, is_tight, touches, gap, text_behind, text_of}
 use Rattle.sql_text.proofs.Runs.{known}
-use Rattle.sql_text.proofs.Space.{truth, both, not_true}
+use Rattle.sql_text.proofs.Space.{both, not_true}
 
 -- ---- what follows a token
 

@@ -1,5 +1,5 @@
 -- When two statements are the same: places aside.
-use Rattle.std.specs.Prelude.{◌≡◌, Option, option_map, List, map}
+use Rattle.std.specs.Prelude.{◌≡◌, option_map, map}
 use Rattle.sql_text.specs.declared.tree.Tree.{Tree}
 use Rattle.sql_text.specs.declared.tree.Tree.TheFolds.{fold-Tree}
 use Rattle.sql_text.specs.declared.tree.Tree.TheOpen.{Tree-F}

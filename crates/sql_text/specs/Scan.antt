@@ -1,5 +1,5 @@
 -- The token at the front of a text, computed: what the reader's own functions answer.
-use Rattle.std.specs.Prelude.{◌≡◌, ◌+◌, ◌&&◌, ◌==◌, if◌then◌else◌, ℕ, pos, Bool, true, false, not, nat_lt, Option, Some, None, option_map, List, [], ◌∷◌, ◌++◌, length, map, take, drop, slice_index}
+use Rattle.std.specs.Prelude.{◌&&◌, ◌==◌, if◌then◌else◌, ℕ, pos, Bool, true, false, not, nat_lt, Option, Some, None, option_map, List, [], ◌∷◌, ◌++◌, length, map, take, drop, slice_index}
 use Rattle.std.specs.Borrow.{Bor}
 use Rattle.std.specs.Char.{is_ascii_digit, to_ascii_uppercase}
 use Rattle.std.specs.List.{prefix_len}

@@ -1,4 +1,4 @@
-use Rattle.std.proofs.Common.{◌≡◌, ◌≢◌, ◌≤◌, ◌<◌, ◌++◌, ◌∷◌, length, [], Option, Some, None, sym, ap, ◌∙◌, arith, rules}
+use Rattle.std.proofs.Common.{◌≡◌, Some, None, sym, ap, ◌∙◌}
 use Rattle.sql_text.specs.Scan.{seen, token_of}
 use Rattle.sql_text.proofs.Reading.{on_start, on_le, on_more, on_shorter, on_end, on_stop, goes_on, has_ended}
 use Rattle.sql_text.proofs.scan.scan.Goals as goal

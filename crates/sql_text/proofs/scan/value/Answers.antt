@@ -1,8 +1,7 @@
-use Rattle.std.proofs.Common.{◌≡◌, ℕ, ◌<◌, min, take, get_or, unwrap_or, length, sym, ap, ◌∙◌, arith, rules}
+use Rattle.std.proofs.Common.{◌≡◌, ◌<◌, take, get_or, length, arith}
 use Rattle.std.proofs.lemmas.List.{get_or_read}
 use Rattle.std.specs.Char.{digit_value}
 use Rattle.std.specs.Str.Parse.{digits_value}
-use Rattle.cal_value.specs.Interval.{limit}
 use Rattle.sql_text.proofs.Digits.{value_more, digit_at, capped}
 use Rattle.sql_text.proofs.scan.value.Goals as goal
 
