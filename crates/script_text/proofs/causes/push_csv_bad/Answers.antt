@@ -1,4 +1,3 @@
-use Rattle.std.proofs.Common.{rules, ◌≡◌}
 use Rattle.std.proofs.lemmas.Result.{on_ok_weaker}
 use Rattle.script_text.proofs.PrintLemmas.{three_pieces}
 use Rattle.script_text.proofs.causes.push_csv_bad.Goals as goal

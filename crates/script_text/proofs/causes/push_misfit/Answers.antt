@@ -1,4 +1,4 @@
-use Rattle.std.proofs.Common.{rules, ◌≡◌, ◌∙◌, ◌++◌, ℤ, ap, codes, string_bytes}
+use Rattle.std.proofs.Common.{◌∙◌, ◌++◌, ℤ, ap, codes, string_bytes}
 use Rattle.std.specs.Int.{w128}
 use Rattle.std.specs.Prelude.{decimal}
 use Rattle.std.proofs.lemmas.Int.{to_z-of_z}

@@ -1,4 +1,4 @@
-use Rattle.std.proofs.Common.{rules, ◌≡◌, ◌∙◌, ◌++◌, ap, sym, string_bytes}
+use Rattle.std.proofs.Common.{◌∙◌, ◌++◌, ap, sym, string_bytes}
 use Rattle.std.proofs.lemmas.Result.{on_ok_weaker}
 use Rattle.cal_schema.specs.declared.refusal.Refusal.{Refusal}
 use Rattle.script_text.specs.Causes.{refusal_text}
