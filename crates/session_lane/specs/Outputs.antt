@@ -1,15 +1,26 @@
 -- The expressions of a SELECT over one row, and what they make of rows.
-use Rattle.std.specs.Prelude.{ℕ, ◌≤◌, Bool, true, List, [], ◌∷◌, ◌++◌, zero, suc, length, map, All, IfSome, Option, Some, None}
+use Rattle.std.specs.Prelude.{ℕ, ◌≤◌, Bool, true, List, [], ◌∷◌, ◌++◌, zero, suc, length, map, All, IfSome, Option, Some, None, ⊤}
+use Rattle.adapters.specs.declared.adapter.AnyAdapter.{AnyAdapter}
+use Rattle.adapters.specs.declared.adapter.AnyAdapter.TheVariants.{Csv, Mem}
 use Rattle.cal_expr.specs.declared.expr.Expr.{Expr}
 use Rattle.cal_expr.specs.Meaning.{meaning_of}
 use Rattle.cal_expr.specs.WellFormed.{IsWellFormed}
 use Rattle.cal_schema.specs.declared.schema.Schema.{Schema}
+use Rattle.cal_schema.specs.declared.table.AdapterKind.{AdapterKind}
+use Rattle.cal_schema.specs.declared.table.AdapterKind.TheVariants.{Csv as CsvKind, Mem as MemKind}
 use Rattle.cal_value.specs.declared.value.Value.{Value}
 use Rattle.sql_text.specs.declared.select.Items.{Items}
 use Rattle.sql_text.specs.declared.select.Items.TheVariants.{Star, Listed}
 use Rattle.sql_meaning.specs.Scope.{Header}
 use Rattle.sql_meaning.specs.Value.{is_true}
 use Rattle.sql_to_rel.specs.Numbered.{numbered}
+
+-- the adapter of tables of this kind
+abbrev pub IsAdapterOf : AdapterKind → AnyAdapter → Type 0
+IsAdapterOf CsvKind (Csv a) = ⊤
+IsAdapterOf CsvKind (Mem a) = ⊥
+IsAdapterOf MemKind (Csv a) = ⊥
+IsAdapterOf MemKind (Mem a) = ⊤
 
 -- 0 .. n-1
 abbrev pub up_to : ℕ → List ℕ

@@ -3,7 +3,7 @@ ghost use Rattle.std.specs.Prelude.{◌≡◌, ◌≤◌, [], length, All, IfOk,
 ghost use Rattle.cal_snapshot.specs.Parts.{rows_of};
 ghost use Rattle.cal_snapshot.specs.declared.part.Part.TheVariants.{Table};
 ghost use Rattle.adapters.specs.Scan.{rows_in};
-ghost use Rattle.session_lane.specs.Outputs.{up_to};
+ghost use Rattle.session_lane.specs.Outputs.{IsAdapterOf, up_to};
 
 use adapters::{Adapter, AnyAdapter, CsvAdapter, MemAdapter, ScanRequest};
 use cal_schema::AdapterKind;
@@ -13,7 +13,9 @@ use std::alloc::Global;
 use std::marker::Brand;
 use std::sync::ledger::{Blank, Ledger};
 
-fn adapter(kind: AdapterKind) -> AnyAdapter {
+fn adapter(kind: AdapterKind) -> AnyAdapter
+    ensures { IsAdapterOf kind result }
+{
     match kind {
         AdapterKind::Csv => AnyAdapter::Csv(CsvAdapter),
         AdapterKind::Mem => AnyAdapter::Mem(MemAdapter),
