@@ -1,5 +1,5 @@
 -- The reply to a text from what its parts answer.
-use Rattle.std.proofs.Common.{◌≡◌, ℕ, List, Option, Some, None, ◌⊎◌, inl, inr, sym, ap, subst, ◌∙◌, refl}
+use Rattle.std.proofs.Common.{◌≡◌, ℕ, List, Some, None, inl, inr, sym, subst, refl}
 use Rattle.std.specs.Prelude.{◌≢◌, true, false}
 use Rattle.cal_schema.specs.declared.database.Db.{Db}
 use Rattle.cal_value.specs.declared.value.Value.{Value}
@@ -8,7 +8,7 @@ use Rattle.cal_schema.specs.declared.refusal.Refusal.TheVariants as refused
 use Rattle.cal_schema.specs.declared.schema.Schema.{Schema}
 use Rattle.session_lane.specs.declared.reply.Cause.TheVariants.{Text}
 use Rattle.session_lane.specs.declared.reply.Reply.{Reply}
-use Rattle.session_lane.specs.declared.reply.Reply.TheVariants.{Rows, Refused}
+use Rattle.session_lane.specs.declared.reply.Reply.TheVariants.{Refused}
 use Rattle.sql_meaning.specs.Refused.{is_plain, refusal_of}
 use Rattle.sql_parser.specs.Answers.{IsWithinLimits}
 use Rattle.sql_parser.specs.Grammar.{Spells}
@@ -20,7 +20,7 @@ use Rattle.sql_text.specs.declared.token.Token.{Token}
 use Rattle.sql_validator.specs.Checked.{IsChecked}
 use Rattle.sql_validator.specs.declared.checked.CheckedSelect.{CheckedSelect}
 use Rattle.cal_top.specs.Statements.{IsStatement, IsNoStatement, IsParseRefusal, select_refusal, refusal_in}
-use Rattle.cal_top.specs.Replies.{Answers, IsReplyTo, AnswersText, TellsNoStatement}
+use Rattle.cal_top.specs.Replies.{Answers, IsReplyTo, TellsNoStatement}
 
 -- why the tokens of a text are no statement is why the text is none
 pub no_statement : (text : List ℕ) (tokens : List Token) (cause : Refusal) → HasTokens text tokens → IsParseRefusal tokens cause → cause ≢ refused.NoMemory → IsNoStatement text cause

@@ -1,9 +1,9 @@
 -- Where no memory is left for the text of a run, and how a run over valid input ends.
 use Rattle.std.proofs.Common.{◌≡◌, ◌≤◌, ◌<◌, ℕ, List, [], Option, Some, None, ◌⊎◌, inl, inr, sym, ap, subst, ◌∙◌, arith, refl}
-use Rattle.std.specs.Prelude.{Ok, Err, length, IsSomeAnd, IfSome, ⊤}
+use Rattle.std.specs.Prelude.{Err, length, IsSomeAnd, ⊤}
 use Rattle.cal_outside.specs.Faults.{Rose}
 use Rattle.cal_schema.specs.declared.database.Db.{Db}
-use Rattle.cal_start.specs.Next.{ToldFiles, Next, wants, stops, done, next_of, AreRead, EndCause, IsLonger, IsBroken}
+use Rattle.cal_start.specs.Next.{ToldFiles, Next, stops, next_of, AreRead, EndCause, IsLonger}
 use Rattle.cal_start.specs.declared.fault.FileRead.{FileRead}
 use Rattle.cal_start.specs.declared.fault.StartFault.{StartFault}
 use Rattle.cal_start.specs.declared.fault.StartFault.TheVariants as start
@@ -12,7 +12,7 @@ use Rattle.command_line.specs.Reading.{reading}
 use Rattle.command_line.specs.declared.reading.Asked.{Asked}
 use Rattle.session_lane.specs.declared.reply.Reply.{Reply}
 use Rattle.session_lane.specs.declared.reply.Reply.TheVariants.{Rows, Refused}
-use Rattle.cal_top.specs.Run.{HasRead, HasNoReading, IsReplied, IsStopped, HasCause, IsFine, IsValid, Ends}
+use Rattle.cal_top.specs.Run.{HasRead, IsStopped, HasCause, IsFine, IsValid, Ends}
 use Rattle.cal_top.specs.Told.{status_of, top_fault}
 use Rattle.cal_top.specs.declared.record.QueryRecord.{QueryRecord}
 use Rattle.cal_top.specs.declared.record.TopFault.{TopFault}

@@ -14,7 +14,7 @@ use Rattle.cal_top.specs.Replies.{IsReplyTo}
 use Rattle.cal_top.specs.Told.{status_of, top_fault}
 use Rattle.cal_top.specs.declared.record.QueryRecord.{QueryRecord}
 use Rattle.cal_top.specs.declared.record.TopFault.{TopFault}
-use Rattle.cal_top.specs.declared.record.TopFault.TheVariants.{BadWords, NotJson, BadModel, Table, TooBig, ReadFault, SinkFault, NoMemory}
+use Rattle.cal_top.specs.declared.record.TopFault.TheVariants.{BadWords, SinkFault, NoMemory}
 
 -- there are no tables and no reply
 abbrev pub NoReply : Option Db → Option Reply → Type 0

@@ -1,5 +1,5 @@
 -- The statement that a text is, or why it is none that is answered.
-use Rattle.std.specs.Prelude.{◌≡◌, ℕ, List, Option, Some, None, if◌then◌else◌, ⊤}
+use Rattle.std.specs.Prelude.{ℕ, List, Option, Some, if◌then◌else◌, ⊤}
 use Rattle.cal_schema.specs.declared.refusal.Refusal.{Refusal}
 use Rattle.cal_schema.specs.declared.refusal.Refusal.TheVariants as refused
 use Rattle.cal_schema.specs.declared.schema.Schema.{Schema}
