@@ -1,0 +1,2 @@
+SELECT A, "b" FROM T -- all of it
+WHERE A >= 10;
