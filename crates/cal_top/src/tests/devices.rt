@@ -137,7 +137,10 @@ fn the_record_keeps_files_tables_and_reply(rt: HostRuntime) -> Result<(), Fail> 
     assert_eq!(rt; files[0].name.as_str(), "m");
     assert_eq!(rt; files[0].bytes.as_slice(), model.as_bytes());
     let rows = match &ran.record.db {
-        Some(db) => db.tables.as_slice()[0].len(),
+        Some(db) => match db.tables.get(0) {
+            Some(rows) => rows.len(),
+            None => 0,
+        },
         None => 0,
     };
     assert_eq!(rt; rows, 2);
