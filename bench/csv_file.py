@@ -10,37 +10,23 @@ import os
 import sys
 import tempfile
 
-sys.path.insert(0, os.path.dirname(os.path.abspath(__file__)))
-from inline_rows import ROOT, timed  # noqa: E402
-
-PROGRAM = os.path.join(ROOT, "crates", "csv_rows", "out", "csv_rows")
+from timing import fill, numbers, program, sizes, timed
 
 
 def write_table(path, limit):
     """Rows of a number, a quoted text and a number, as many as fit; answers how many."""
-    with open(path, "w") as out:
-        out.write("ID:long,NAME:string,UNITS:int\n")
-        size, count, number = out.tell(), 0, 1
-        while True:
-            number = (1103515245 * number + 12345) % 2**31
-            line = f'{count},"name, {number // 2**16}",{number // 2**11}\n'
-            size += len(line)
-            if size > limit:
-                return count
-            out.write(line)
-            count += 1
+    rows = (f'{count},"name, {number // 2**16}",{number // 2**11}\n' for count, number in enumerate(numbers()))
+    return fill(path, "ID:long,NAME:string,UNITS:int\n", rows, limit)
 
 
 def main():
-    if not os.path.exists(PROGRAM):
-        sys.exit("crates/csv_rows/out/csv_rows is missing: run `rt ci` first")
-    sizes = [int(word) for word in sys.argv[1:]] or [1, 2, 4, 8]
+    csv_rows = program("csv_rows")
     print("MiB  rows     ours s  sqlite3 s  ratio  ours MiB")
-    for size in sizes:
+    for size in sizes([1, 2, 4, 8]):
         with tempfile.TemporaryDirectory() as folder:
             path = os.path.join(folder, "table.csv")
             count = write_table(path, size * 2**20)
-            ours, memory, answer = timed([PROGRAM, path])
+            ours, memory, answer = timed([csv_rows, path])
             theirs, _, other = timed(
                 ["sqlite3", ":memory:", "CREATE TABLE T(ID INTEGER, NAME TEXT, UNITS INTEGER);", ".mode csv",
                  f".import --skip 1 {path} T", "SELECT count(*) FROM T;"])

@@ -10,9 +10,8 @@ import os
 import sys
 import tempfile
 
-sys.path.insert(0, os.path.dirname(os.path.abspath(__file__)))
-from csv_file import write_table  # noqa: E402
-from inline_rows import CALQ, timed  # noqa: E402
+from csv_file import write_table
+from timing import program, sizes, timed
 
 MODEL = (
     '{"defaultSchema":"S","schemas":[{"name":"S","tables":[{"name":"T",'
@@ -22,18 +21,16 @@ QUERY = "SELECT ID, NAME, UNITS * 2 AS TWICE FROM T WHERE UNITS > 524288 AND NAM
 
 
 def main():
-    if not os.path.exists(CALQ):
-        sys.exit("crates/calq/out/calq is missing: run `rt ci` first")
-    sizes = [int(word) for word in sys.argv[1:]] or [1, 2, 4, 8]
+    calq = program("calq")
     print("MiB  rows     kept     calq s  sqlite3 s  ratio  calq MiB")
-    for size in sizes:
+    for size in sizes([1, 2, 4, 8]):
         with tempfile.TemporaryDirectory() as folder:
             path = os.path.join(folder, "table.csv")
             count = write_table(path, size * 2**20)
             model = os.path.join(folder, "model.json")
             with open(model, "w") as out:
                 out.write(MODEL % path)
-            ours, memory, answer = timed([CALQ, model, QUERY])
+            ours, memory, answer = timed([calq, model, QUERY])
             theirs, _, other = timed(
                 ["sqlite3", ":memory:", "CREATE TABLE T(ID INTEGER, NAME TEXT, UNITS INTEGER);", ".mode csv",
                  f".import --skip 1 {path} T", ".mode quote", QUERY + ";"])
