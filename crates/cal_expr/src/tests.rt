@@ -1,5 +1,5 @@
 use crate::{Expr, Op, eval, expr_type};
-use cal_value::{Interval, LIMIT, List, NoMemory, Row, SqlText, SqlType, Value, has_types};
+use cal_value::{Interval, List, NUMBER_LIMIT, NoMemory, Row, SqlText, SqlType, Value, has_types};
 use std::alloc::Global;
 use std::test::Fail;
 
@@ -208,12 +208,12 @@ fn types_of_operators(rt: HostRuntime) -> Result<(), Fail> {
 fn literals_and_divisors(rt: HostRuntime) -> Result<(), Fail> {
     let alloc = rt.alloc();
     let columns = columns_of_sizes(alloc)?;
-    let widest = LIMIT - 1;
+    let widest = NUMBER_LIMIT - 1;
     assert_eq!(rt;
         expr_type(&number(widest), &columns),
         Some(SqlType::integer(false, range(widest, widest)))
     );
-    assert_eq!(rt; expr_type(&number(LIMIT), &columns), None);
+    assert_eq!(rt; expr_type(&number(NUMBER_LIMIT), &columns), None);
     assert_eq!(rt; expr_type(&Expr::Literal(Value::Null), &columns), None);
     let table = [
         (-1, Some(range(-2147483647, 2147483648))),

@@ -11,3 +11,4 @@ pub mod AggregateFolds
 pub mod AggregateLaws
 pub mod AggregateLemmas
 pub mod AggregateTyped
+pub mod TextLemmas

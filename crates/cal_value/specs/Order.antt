@@ -1,5 +1,5 @@
 -- The order of values, of rows under keys, and equality of bags.
-use Rattle.std.specs.Prelude.{◌≡◌, ℕ, List, [], ◌∷◌, if◌then◌else◌, slice_get, unwrap_or, count_by}
+use Rattle.std.specs.Prelude.{◌≡◌, ℕ, List, [], ◌∷◌, if◌then◌else◌, slice_get, unwrap_or, count_by, map}
 use Rattle.std.specs.declared.cmp.Ordering.{Ordering}
 use Rattle.std.specs.declared.cmp.Ordering.TheVariants.{Less, Equal, Greater}
 use Rattle.std.specs.Ordering.{nat_cmp, int_cmp, bool_cmp, ordering_then}
@@ -34,6 +34,10 @@ key_cmp k a b = if k.descending then value_cmp b a else value_cmp a b
 -- the value in a column, and NULL past the end
 abbrev pub column_of : List Value → ℕ → Value
 column_of row at = unwrap_or (slice_get row at) Null
+
+-- the values in these columns, in this order
+abbrev pub columns_of : List Value → List ℕ → List Value
+columns_of row columns = map (column_of row) columns
 
 -- key after key
 abbrev pub row_cmp : List KeyOrder → List Value → List Value → Ordering

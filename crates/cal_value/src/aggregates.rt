@@ -6,8 +6,9 @@ ghost use Rattle.cal_value.specs.Aggregate.{aggregated, combined, row_bound, agg
 ghost use Rattle.cal_value.specs.Held.{IsHeld};
 ghost use Rattle.cal_value.specs.Interval.{cut, cut_ends};
 
-use crate::interval::{Interval, LIMIT, cut_at_limit, cut_product};
+use crate::interval::{Interval, cut_at_limit, cut_product};
 use crate::kind::{Kind, SqlType};
+use crate::limits::NUMBER_LIMIT;
 use crate::list::List;
 use crate::memory::{Duplicate, NoMemory};
 use crate::operator::Agg;
@@ -51,10 +52,10 @@ fn greater(alloc: Global, so_far: Value, value: &Value) -> Result<Value, NoMemor
 fn cut_bound(bound: u128) -> i128
     ensures { result ≡ pos (row_bound bound) }
 {
-    if bound < LIMIT as u128 {
+    if bound < NUMBER_LIMIT as u128 {
         bound as i128
     } else {
-        LIMIT
+        NUMBER_LIMIT
     }
 }
 

@@ -3,8 +3,7 @@ ghost use Rattle.std.specs.Int.{int_min, int_max};
 ghost use Rattle.cal_value.specs.Interval as spec;
 ghost use Rattle.cal_value.specs.Interval.{Holds, IsProper, IsWithin, IsMeet, hull, at_ends, negated, meet_of, cut, cut_ends};
 
-/// 10^38: a number of SQL is smaller in size.
-pub const LIMIT: i128 = 100_000_000_000_000_000_000_000_000_000_000_000_000;
+use crate::limits::NUMBER_LIMIT;
 
 /// The whole numbers from `lo` to `hi`, both included, or none.
 #[derive(Clone, Copy, Debug, PartialEq, Eq, Hash)]
@@ -16,7 +15,7 @@ pub enum Interval {
 pub(crate) fn cut_at_limit(z: i128) -> i128
     ensures { result ≡ cut z }
 {
-    z.clamp(-LIMIT, LIMIT)
+    z.clamp(-NUMBER_LIMIT, NUMBER_LIMIT)
 }
 
 fn least_of(p: i128, q: i128, r: i128, s: i128) -> i128
@@ -161,7 +160,10 @@ impl Interval {
     {
         match self {
             Interval::Never => true,
-            Interval::Range { lo, hi } => -LIMIT < lo && lo < LIMIT && -LIMIT < hi && hi < LIMIT,
+            Interval::Range { lo, hi } => -NUMBER_LIMIT < lo
+                && lo < NUMBER_LIMIT
+                && -NUMBER_LIMIT < hi
+                && hi < NUMBER_LIMIT,
         }
     }
 

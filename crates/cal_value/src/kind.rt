@@ -1,5 +1,5 @@
 ghost use Rattle.std.specs.Prelude.{◌≡◌, ◌↔◌, IsTrue, All};
-ghost use Rattle.cal_value.specs.Types.{HasTypes};
+ghost use Rattle.cal_value.specs.Types.{HasTypes, same_kind};
 
 use crate::interval::Interval;
 use crate::list::List;
@@ -13,6 +13,20 @@ pub enum Kind {
     Boolean,
     Integer,
     Text,
+}
+
+impl Kind {
+    /// Whether the two are one kind.
+    pub fn is(self, other: Kind) -> bool
+        ensures { result ≡ same_kind self other }
+    {
+        match (self, other) {
+            (Kind::Boolean, Kind::Boolean)
+            | (Kind::Integer, Kind::Integer)
+            | (Kind::Text, Kind::Text) => true,
+            _ => false,
+        }
+    }
 }
 
 /// A kind, whether NULL may stand there, and which whole numbers. At another kind than `Integer` the interval is

@@ -6,6 +6,7 @@ mod bag;
 mod interval;
 mod kind;
 pub mod laws;
+mod limits;
 mod list;
 mod logic;
 mod memory;
@@ -17,16 +18,20 @@ mod value;
 
 pub use aggregates::aggregate;
 pub use bag::{is_in_order, same_bag};
-pub use interval::{Interval, LIMIT};
+pub use interval::Interval;
 pub use kind::{Kind, SqlType, has_types};
+pub use limits::{
+    BRACKET_LIMIT, BUDGET_LIMIT, COLUMN_LIMIT, FILE_LIMIT, FILES_LIMIT, MODEL_LIMIT, NAME_LIMIT,
+    NUMBER_LIMIT, OPERATOR_LIMIT, ROW_LIMIT, TABLE_LIMIT, TEXT_LIMIT,
+};
 pub use list::List;
 pub use logic::{and3, not3, or3};
 pub use memory::{Duplicate, NoMemory};
 pub use operator::{Agg, Op};
 pub use order::{Collation, KeyOrder, compare, compare_rows, compare_values};
 pub use steps::Steps;
-pub use text::{SqlText, TEXT_LIMIT, TextFault};
-pub use value::{Row, Value, copy_row};
+pub use text::{SqlText, TextFault, characters, push_characters};
+pub use value::{Row, Value, copy_row, value_at, values_at};
 
 #[cfg(test)]
 mod tests;

@@ -1,9 +1,9 @@
 ghost use Rattle.std.specs.Prelude.{◌≡◌, IsTrue};
 
 use crate::{
-    Agg, Duplicate, Interval, KeyOrder, Kind, LIMIT, List, NoMemory, Row, SqlText, SqlType, Steps,
-    TextFault, Value, aggregate, and3, compare, compare_rows, copy_row, has_types, is_in_order,
-    not3, or3, same_bag,
+    Agg, Duplicate, Interval, KeyOrder, Kind, List, NUMBER_LIMIT, NoMemory, Row, SqlText, SqlType,
+    Steps, TextFault, Value, aggregate, and3, compare, compare_rows, copy_row, has_types,
+    is_in_order, not3, or3, same_bag,
 };
 use std::alloc::Global;
 use std::cmp::Ordering;
@@ -231,17 +231,27 @@ fn intervals_hold_the_results_at_the_ends(rt: HostRuntime) {
 fn intervals_end_at_the_limit(rt: HostRuntime) {
     assert_eq!(rt;
         BIGINT.product(BIGINT).product(BIGINT),
-        range(-LIMIT, LIMIT)
+        range(-NUMBER_LIMIT, NUMBER_LIMIT)
     );
     assert!(rt; !BIGINT.product(BIGINT).product(BIGINT).is_in_range());
-    let widest = range(1 - LIMIT, LIMIT - 1);
+    let widest = range(1 - NUMBER_LIMIT, NUMBER_LIMIT - 1);
     assert!(rt; widest.is_in_range());
-    assert_eq!(rt; widest.sum(range(0, 1)), range(1 - LIMIT, LIMIT));
+    assert_eq!(rt;
+        widest.sum(range(0, 1)),
+        range(1 - NUMBER_LIMIT, NUMBER_LIMIT)
+    );
     assert!(rt; !widest.sum(range(0, 1)).is_in_range());
-    assert_eq!(rt; widest.difference(widest), range(-LIMIT, LIMIT));
+    assert_eq!(rt;
+        widest.difference(widest),
+        range(-NUMBER_LIMIT, NUMBER_LIMIT)
+    );
     let lowest = range(i128::MIN, i128::MIN);
     let table = [
-        (lowest, range(-1, -1), Some(range(LIMIT, LIMIT))),
+        (
+            lowest,
+            range(-1, -1),
+            Some(range(NUMBER_LIMIT, NUMBER_LIMIT)),
+        ),
         (range(-3, -3), range(2, 2), Some(range(-1, -1))),
         (SMALLINT, range(2, 3), Some(range(-16384, 16383))),
         (
@@ -288,7 +298,7 @@ fn what_two_intervals_hold_is_their_meet(rt: HostRuntime) {
     assert_eq!(rt; narrow, SqlType::integer(false, range(3, 10)));
     assert!(rt; narrow.is_at_most_as_wide(number) && !number.is_at_most_as_wide(narrow));
     assert!(rt; !SqlType::text(false).is_at_most_as_wide(SqlType::boolean(true)));
-    assert_eq!(rt; SqlType::number(false, range(0, LIMIT)), None);
+    assert_eq!(rt; SqlType::number(false, range(0, NUMBER_LIMIT)), None);
 }
 
 #[test]

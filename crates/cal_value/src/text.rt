@@ -1,4 +1,4 @@
-ghost use Rattle.std.specs.Prelude.{◌≡◌, ◌≤◌, length, IfOk, OnOk, IfErr, ◌==◌};
+ghost use Rattle.std.specs.Prelude.{◌≡◌, ◌≤◌, ◌++◌, length, IfOk, OnOk, IfErr, ◌==◌, string_bytes, encode_utf8_all};
 ghost use Rattle.std.specs.Cmp.Lexicographic.{pointwise, nat_list_eq_equiv};
 ghost use Rattle.std.specs.Cmp;
 ghost use Rattle.std.specs.Hash as fed;
@@ -6,15 +6,13 @@ ghost use Rattle.std.specs.Cmp.Rules.{comparing, hashing};
 ghost use Rattle.std.proofs.Common.{rules};
 ghost use Rattle.std.specs.Str.{chars};
 
+use crate::limits::TEXT_LIMIT;
 use crate::list::List;
 use crate::memory::{Duplicate, NoMemory};
-use std::alloc::{AllocError, Global};
+use std::alloc::Global;
 use std::hash::{Hash, Hasher};
 use std::marker::Model;
 use thiserror::Error;
-
-/// How many characters a text may have.
-pub const TEXT_LIMIT: u32 = 4000;
 
 /// Why a text isn't taken.
 #[derive(Clone, Copy, Debug, PartialEq, Eq, Error)]
@@ -33,12 +31,13 @@ pub struct SqlText {
 
 impl Model for SqlText {
     ghost use Rattle.std.specs.Prelude.{List, ℕ, ◌≤◌, length};
+    ghost use Rattle.cal_value.specs.declared.limits.TheConstants.{TEXT_LIMIT};
 
     ghost Value = { List ℕ };
 
     ghost view = { λ text. text.chars.items };
 
-    ghost invariant = { λ text. length text.chars.items ≤ 4000 };
+    ghost invariant = { λ text. length text.chars.items ≤ TEXT_LIMIT };
 }
 
 #[tactic(auto, using(std::proofs::lemmas::Str::chars_from_encodes))]
@@ -48,11 +47,24 @@ fn character_count(text: &str) -> usize
     text.chars().count()
 }
 
+/// The characters of a text.
 #[tactic(auto, using(std::proofs::lemmas::Str::chars_from_encodes))]
-fn characters(alloc: Global, text: &str) -> Result<Vec<char>, AllocError>
+pub fn characters(alloc: Global, text: &str) -> Result<Vec<char>, NoMemory>
     ensures { IfOk result (λ all. all.items ≡ chars text.now) }
 {
-    text.chars().collect(alloc)
+    let all = text.chars().collect(alloc)?;
+    Ok(all)
+}
+
+/// Adds the characters at the end of `out`. Where there is no memory, the first ones may stand there.
+#[tactic(auto, using(crate::proofs::TextLemmas::encoded_more))]
+pub fn push_characters(out: &mut String, text: &[char]) -> Result<(), NoMemory>
+    ensures { OnOk result (string_bytes out.new ≡ string_bytes out.old ++ encode_utf8_all text.now) }
+{
+    for character in text {
+        out.push(*character)?;
+    }
+    Ok(())
 }
 
 impl SqlText {
@@ -61,7 +73,7 @@ impl SqlText {
     /// The text, where it has at most 4,000 characters. `TooLong` comes exactly where it has more, also where no memory is left.
     pub fn of(alloc: Global, text: &str) -> Result<SqlText, TextFault>
         ensures value { IfOk result (λ t. t ≡ chars text.now) }
-        ensures fits { OnOk result (length (chars text.now) ≤ 4000) }
+        ensures fits { OnOk result (length (chars text.now) ≤ TEXT_LIMIT) }
         ensures fault { IfErr result (IsFaultOf (chars text.now)) }
     {
         if character_count(text) > TEXT_LIMIT as usize {
@@ -75,7 +87,7 @@ impl SqlText {
 
     /// The text of these characters. Takes no memory.
     pub fn from_characters(characters: Vec<char>) -> SqlText
-        requires { length characters.items ≤ 4000 }
+        requires { length characters.items ≤ TEXT_LIMIT }
         ensures { result ≡ characters.items }
     {
         SqlText { chars: characters }

@@ -1,5 +1,6 @@
 ghost use Rattle.std.specs.Prelude.{◌≡◌, IfOk};
 ghost use Rattle.cal_value.specs.Logic as logic;
+ghost use Rattle.cal_value.specs.Order.{column_of, columns_of};
 
 use crate::list::List;
 use crate::memory::{Duplicate, NoMemory};
@@ -88,4 +89,25 @@ pub fn copy_row(alloc: Global, row: &Row) -> Result<Row, NoMemory>
     ensures { IfOk result (λ copy. copy ≡ row.now) }
 {
     row.copy(alloc)
+}
+
+/// The value in a column, counted from 0. A column past the row's end counts as NULL.
+pub fn value_at(alloc: Global, row: &Row, column: usize) -> Result<Value, NoMemory>
+    ensures { IfOk result (λ value. value ≡ column_of row.now column) }
+{
+    match row.get(column) {
+        Some(value) => value.copy(alloc),
+        None => Ok(Value::Null),
+    }
+}
+
+/// The values in these columns, in this order.
+pub fn values_at(alloc: Global, row: &Row, columns: &[u32]) -> Result<Row, NoMemory>
+    ensures { IfOk result (λ values. values ≡ columns_of row.now columns.now) }
+{
+    let mut values = List::new(alloc);
+    for column in columns {
+        values.push(value_at(alloc, row, *column as usize)?)?;
+    }
+    Ok(values)
 }

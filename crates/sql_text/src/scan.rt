@@ -12,7 +12,7 @@ ghost use Rattle.sql_text.specs.Tokens.{HasTokens, IsTokenFaultOf, IsToken};
 
 use crate::token::{Symbol, Token};
 use crate::words::reserved_word;
-use cal_value::{LIMIT, List, NoMemory, SqlText, TEXT_LIMIT};
+use cal_value::{List, NUMBER_LIMIT, NoMemory, SqlText, TEXT_LIMIT};
 use std::alloc::{AllocError, Global};
 use thiserror::Error;
 
@@ -134,7 +134,7 @@ fn value(digits: &[char]) -> u128
         value = value
             .saturating_mul(10)
             .saturating_add(digit)
-            .min(LIMIT as u128);
+            .min(NUMBER_LIMIT as u128);
     }
     value
 }
@@ -146,7 +146,7 @@ fn number(rest: &[char]) -> Found<'_>
 {
     let (digits, more) = rest.split_at(digits_len(rest));
     let value = value(digits);
-    if value < LIMIT as u128 && !continues_word(first(more)) {
+    if value < NUMBER_LIMIT as u128 && !continues_word(first(more)) {
         Some((Token::Number(value as i128), more))
     } else {
         None

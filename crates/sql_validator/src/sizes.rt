@@ -15,7 +15,7 @@ ghost use Rattle.sql_validator.specs.Walks.{weighed_of};
 use crate::columns;
 use cal_expr::{column_type, literal_type, negation_type, not_type, op_type};
 use cal_schema::ColumnDef;
-use cal_value::{Interval, Kind, LIMIT, Op, SqlText, SqlType, Value};
+use cal_value::{Interval, Kind, NUMBER_LIMIT, Op, SqlText, SqlType, Value};
 use sql_meaning::Misfit;
 use sql_text::{Item, Items, Select, Tree};
 
@@ -39,7 +39,7 @@ fn nearer_of(a: Option<Misfit>, b: Option<Misfit>) -> Option<Misfit>
 fn cut_at_limit(number: i128) -> i128
     ensures { result ≡ cut number }
 {
-    number.clamp(-LIMIT, LIMIT)
+    number.clamp(-NUMBER_LIMIT, NUMBER_LIMIT)
 }
 
 fn told(place: u64, interval: Interval) -> Option<Misfit>
