@@ -38,3 +38,10 @@ is_null Null = true
 is_null (BoolValue b) = false
 is_null (Int n) = false
 is_null (Text t) = false
+
+-- TRUE: NULL isn't, nor is a value of another kind
+abbrev pub is_true : Value → Bool
+is_true Null = false
+is_true (BoolValue b) = b
+is_true (Int n) = false
+is_true (Text t) = false

@@ -27,6 +27,16 @@ impl Value {
         matches!(self, Value::Null)
     }
 
+    /// Whether it is TRUE. NULL isn't, nor is a value of another kind.
+    pub fn is_true(&self) -> bool
+        ensures { result ≡ logic.is_true self.now }
+    {
+        match self {
+            Value::Bool(b) => *b,
+            _ => false,
+        }
+    }
+
     /// The truth value, and none for NULL and for another kind.
     pub fn truth(&self) -> Option<bool>
         ensures { result ≡ logic.truth_of self.now }
