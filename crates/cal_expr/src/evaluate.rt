@@ -1,13 +1,12 @@
 //! The values of expressions.
 ghost use Rattle.std.specs.Prelude.{◌≡◌, IfOk};
 ghost use Rattle.cal_value.specs.Held.{IsHeld};
-ghost use Rattle.cal_value.specs.Order.{column_of};
 ghost use Rattle.cal_expr.specs.Meaning as spec;
 ghost use Rattle.cal_expr.specs.Meaning.{meaning_of};
 ghost use Rattle.cal_expr.specs.WellFormed.{IsWellFormed, IsWellTyped, CanApply};
 
 use crate::expr::Expr;
-use cal_value::{Duplicate, NoMemory, Op, Row, Value, and3, compare_values, not3, or3};
+use cal_value::{Duplicate, NoMemory, Op, Row, Value, and3, compare_values, not3, or3, value_at};
 use std::alloc::Global;
 use std::cmp::Ordering;
 
@@ -108,21 +107,12 @@ fn apply(op: Op, a: &Value, b: &Value) -> Value
     }
 }
 
-fn column(alloc: Global, row: &Row, at: u32) -> Result<Value, NoMemory>
-    ensures { IfOk result (λ v. v ≡ column_of row.now at) }
-{
-    match row.get(at as usize) {
-        Some(value) => value.copy(alloc),
-        None => Ok(Value::Null),
-    }
-}
-
 fn value_in(alloc: Global, expr: &Expr, row: &Row) -> Result<Value, NoMemory>
     requires { IsWellFormed expr.now row.now }
     ensures { IfOk result (λ v. v ≡ meaning_of expr.now row.now) }
 {
     match expr {
-        Expr::Column(at) => column(alloc, row, *at),
+        Expr::Column(at) => value_at(alloc, row, *at as usize),
         Expr::Literal(value) => value.copy(alloc),
         Expr::Negate(e) => {
             let a = value_in(alloc, e.get(), row)?;

@@ -9,9 +9,7 @@ mod typing;
 pub use cal_value::Op;
 pub use evaluate::{eval, passes};
 pub use expr::Expr;
-pub use typing::{
-    column_type, expr_type, is_same_kind, literal_type, negation_type, not_type, op_type,
-};
+pub use typing::{column_type, expr_type, literal_type, negation_type, not_type, op_type};
 
 #[cfg(test)]
 mod tests;

@@ -1,21 +1,10 @@
 //! The types of expressions.
 ghost use Rattle.std.specs.Prelude.{◌≡◌, ◌+ℤ◌, ◌-ℤ◌, ◌*ℤ◌};
-ghost use Rattle.cal_value.specs.Types.{same_kind};
 ghost use Rattle.cal_expr.specs.Typing as spec;
 ghost use Rattle.cal_expr.specs.Typing.{type_of};
 
 use crate::expr::Expr;
 use cal_value::{Interval, Kind, List, Op, SqlType, Value};
-
-/// Whether the two are one kind.
-pub fn is_same_kind(a: Kind, b: Kind) -> bool
-    ensures { result ≡ same_kind a b }
-{
-    matches!(
-        (a, b),
-        (Kind::Boolean, Kind::Boolean) | (Kind::Integer, Kind::Integer) | (Kind::Text, Kind::Text)
-    )
-}
 
 /// The type of a literal: none of NULL and of a number that is none of SQL. Takes no memory.
 pub fn literal_type(value: &Value) -> Option<SqlType>
@@ -33,7 +22,7 @@ pub fn literal_type(value: &Value) -> Option<SqlType>
 pub fn column_type(t: SqlType) -> Option<SqlType>
     ensures { result ≡ spec.column_type t }
 {
-    if is_same_kind(t.kind, Kind::Integer) {
+    if t.kind.is(Kind::Integer) {
         SqlType::number(t.nullable, t.interval)
     } else {
         Some(t)
@@ -45,7 +34,7 @@ pub fn column_type(t: SqlType) -> Option<SqlType>
 pub fn negation_type(t: SqlType) -> Option<SqlType>
     ensures { result ≡ spec.negation_type t }
 {
-    if is_same_kind(t.kind, Kind::Integer) {
+    if t.kind.is(Kind::Integer) {
         SqlType::number(t.nullable, t.interval.negation())
     } else {
         None
@@ -56,7 +45,7 @@ pub fn negation_type(t: SqlType) -> Option<SqlType>
 pub fn not_type(t: SqlType) -> Option<SqlType>
     ensures { result ≡ spec.not_type t }
 {
-    if is_same_kind(t.kind, Kind::Boolean) {
+    if t.kind.is(Kind::Boolean) {
         Some(SqlType::boolean(t.nullable))
     } else {
         None
@@ -66,7 +55,7 @@ pub fn not_type(t: SqlType) -> Option<SqlType>
 fn comparison_type(s: SqlType, t: SqlType) -> Option<SqlType>
     ensures { result ≡ spec.comparison_type s t }
 {
-    if is_same_kind(s.kind, t.kind) {
+    if s.kind.is(t.kind) {
         Some(SqlType::boolean(s.nullable || t.nullable))
     } else {
         None
@@ -76,7 +65,7 @@ fn comparison_type(s: SqlType, t: SqlType) -> Option<SqlType>
 fn connective_type(s: SqlType, t: SqlType) -> Option<SqlType>
     ensures { result ≡ spec.connective_type s t }
 {
-    if is_same_kind(s.kind, Kind::Boolean) && is_same_kind(t.kind, Kind::Boolean) {
+    if s.kind.is(Kind::Boolean) && t.kind.is(Kind::Boolean) {
         Some(SqlType::boolean(s.nullable || t.nullable))
     } else {
         None
@@ -87,7 +76,7 @@ fn connective_type(s: SqlType, t: SqlType) -> Option<SqlType>
 fn sum_type(s: SqlType, t: SqlType) -> Option<SqlType>
     ensures { result ≡ spec.arithmetic_type ◌+ℤ◌ s t }
 {
-    if is_same_kind(s.kind, Kind::Integer) && is_same_kind(t.kind, Kind::Integer) {
+    if s.kind.is(Kind::Integer) && t.kind.is(Kind::Integer) {
         SqlType::number(s.nullable || t.nullable, s.interval.sum(t.interval))
     } else {
         None
@@ -98,7 +87,7 @@ fn sum_type(s: SqlType, t: SqlType) -> Option<SqlType>
 fn difference_type(s: SqlType, t: SqlType) -> Option<SqlType>
     ensures { result ≡ spec.arithmetic_type ◌-ℤ◌ s t }
 {
-    if is_same_kind(s.kind, Kind::Integer) && is_same_kind(t.kind, Kind::Integer) {
+    if s.kind.is(Kind::Integer) && t.kind.is(Kind::Integer) {
         SqlType::number(s.nullable || t.nullable, s.interval.difference(t.interval))
     } else {
         None
@@ -109,7 +98,7 @@ fn difference_type(s: SqlType, t: SqlType) -> Option<SqlType>
 fn product_type(s: SqlType, t: SqlType) -> Option<SqlType>
     ensures { result ≡ spec.arithmetic_type ◌*ℤ◌ s t }
 {
-    if is_same_kind(s.kind, Kind::Integer) && is_same_kind(t.kind, Kind::Integer) {
+    if s.kind.is(Kind::Integer) && t.kind.is(Kind::Integer) {
         SqlType::number(s.nullable || t.nullable, s.interval.product(t.interval))
     } else {
         None
@@ -120,10 +109,7 @@ fn product_type(s: SqlType, t: SqlType) -> Option<SqlType>
 fn quotient_type(s: SqlType, t: SqlType) -> Option<SqlType>
     ensures { result ≡ spec.quotient_type s t }
 {
-    if is_same_kind(s.kind, Kind::Integer)
-        && is_same_kind(t.kind, Kind::Integer)
-        && t.interval.excludes_zero()
-    {
+    if s.kind.is(Kind::Integer) && t.kind.is(Kind::Integer) && t.interval.excludes_zero() {
         SqlType::number(s.nullable || t.nullable, s.interval.quotient(t.interval))
     } else {
         None

@@ -9,7 +9,6 @@ ghost use Rattle.sql_validator.specs.Walks as walks;
 ghost use Rattle.sql_validator.specs.Walks.{judged_of, bare};
 
 use crate::columns::column_type;
-use cal_expr::is_same_kind;
 use cal_schema::ColumnDef;
 use cal_value::{Kind, Op, SqlText, Value};
 use sql_text::{ColumnName, Item, Items, Select, Tree};
@@ -41,7 +40,7 @@ fn unless(right: bool, place: u64) -> Option<u64>
 fn not_boolean(judged: Judged) -> Option<u64>
     ensures { result ≡ lowest (spec.not_boolean (bare judged)) }
 {
-    unless(is_same_kind(judged.kind, Kind::Boolean), judged.place)
+    unless(judged.kind.is(Kind::Boolean), judged.place)
 }
 
 fn op_kind(op: Op) -> Kind
@@ -56,7 +55,7 @@ fn op_kind(op: Op) -> Kind
 fn arithmetic_clash(place: u64, a: Judged, b: Judged) -> Option<u64>
     ensures { result ≡ lowest (spec.arithmetic_clash place (bare a) (bare b)) }
 {
-    let right = is_same_kind(a.kind, Kind::Integer) && is_same_kind(b.kind, Kind::Integer);
+    let right = a.kind.is(Kind::Integer) && b.kind.is(Kind::Integer);
     unless(right, place)
 }
 
@@ -74,7 +73,7 @@ fn op_clash(place: u64, op: Op, a: Judged, b: Judged) -> Option<u64>
         Op::Add | Op::Subtract | Op::Multiply | Op::Divide => arithmetic_clash(place, a, b),
         Op::And | Op::Or => connective_clash(a, b),
         Op::Equal | Op::NotEqual | Op::Less | Op::LessEqual | Op::Greater | Op::GreaterEqual => {
-            unless(is_same_kind(a.kind, b.kind), place)
+            unless(a.kind.is(b.kind), place)
         }
     }
 }
@@ -116,7 +115,7 @@ fn judge(tree: &Tree, alias: &SqlText, columns: &[ColumnDef]) -> Judged
             Judged {
                 kind: Kind::Integer,
                 place: *place,
-                clash: lower_of(unless(is_same_kind(a.kind, Kind::Integer), *place), a.clash),
+                clash: lower_of(unless(a.kind.is(Kind::Integer), *place), a.clash),
             }
         }
         Tree::Binary {
