@@ -1,8 +1,8 @@
 -- Lists of actors and of places.
-use Rattle.std.proofs.Common.{◌≡◌, ◌≢◌, ℕ, zero, suc, ◌+◌, ◌-◌, ◌<◌, ◌≤◌, List, [], ◌∷◌, length, get_or, take, drop, refl, sym, subst, ◌⊎◌, inl, inr, ⊎_elim, cond, slice_index, arith}
+use Rattle.std.proofs.Common.{◌≡◌, ◌≢◌, ℕ, zero, suc, ◌+◌, ◌-◌, ◌<◌, ◌≤◌, List, [], ◌∷◌, ◌++◌, length, get_or, take, drop, refl, sym, subst, ◌⊎◌, inl, inr, ⊎_elim, cond, slice_index, arith, length-drop}
 use Rattle.std.specs.List.{Contains, range_with_len, remove}
 use Rattle.std.specs.List.Sorted.{IsStrictlyIncreasing, IsPermutation}
-use Rattle.std.proofs.lemmas.List.{nil_from_length}
+use Rattle.std.proofs.lemmas.List.{nil_from_length, take-append-drop, length-take-le}
 use Rattle.std.proofs.lemmas.List.Sorted.{IsPermutation-refl, IsPermutation-trans, IsPermutation-cons, IsPermutation-remove, Contains-permutation, length_permutation}
 use Rattle.turn_lock.specs.Actors.{put, merged, lower, upper}
 use Rattle.turn_lock.proofs.Comparing.{by_lt}
@@ -116,6 +116,16 @@ module _ (n : ℕ) (xs : List ℕ) where
 
   pub in_parts : (a : ℕ) → Contains xs a → Contains (lower n xs) a ⊎ Contains (upper n xs) a
   in_parts a c = ⊎_elim (λ l. inl (contains (lower n xs) a l)) (λ r. inr (contains (upper n xs) a r)) (has_part (length xs - n) xs a (has xs a c))
+
+  pub parts_whole : lower n xs ++ upper n xs ≡ xs
+  parts_whole = take-append-drop (length xs - n) xs
+
+  module _ (fits : n ≤ length xs) where
+    pub length-lower : length (lower n xs) + n ≡ length xs
+    length-lower = omega (arith, fits, length-take-le (length xs - n) xs (omega arith))
+
+    pub length-upper : length (upper n xs) ≡ n
+    length-upper = omega (arith, fits, length-drop (length xs - n) xs)
 
   module _ (up : IsStrictlyIncreasing xs) where
     pub lower_rises : IsStrictlyIncreasing (lower n xs)

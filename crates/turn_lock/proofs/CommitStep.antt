@@ -1,5 +1,5 @@
 -- A commit keeps the rule, from any state that meets it.
-use Rattle.std.proofs.Common.{◌≡◌, ◌≢◌, ℕ, ◌+◌, ◌%◌, ◌^◌, ◌<◌, true, List, [], ◌∷◌, ◌++◌, length, get_or, set, sym, refl, ap, ◌∙◌, subst, inl, inr, ⊎_elim, arith, length-append}
+use Rattle.std.proofs.Common.{◌≡◌, ◌≢◌, ℕ, ◌+◌, ◌%◌, ◌^◌, ◌<◌, Some, List, [], ◌∷◌, ◌++◌, length, get_or, set, sym, refl, ap, ◌∙◌, subst, inl, inr, ⊎_elim, arith, length-append}
 use Rattle.std.proofs.Math.Nat.{mod-eq_of_lt}
 use Rattle.std.proofs.lemmas.List.Elements.{Contains-append_left, Contains-push, Contains-push_cases}
 use Rattle.std.specs.List.{Contains}
@@ -18,7 +18,7 @@ use Rattle.turn_lock.specs.Rule.IsPlaced.{at_home, out}
 use Rattle.turn_lock.specs.Steps.{SeatState, Commits}
 use Rattle.turn_lock.proofs.Stages.{turn_ticket, turn_tickets}
 use Rattle.turn_lock.proofs.ActorLists.{in_merged}
-use Rattle.turn_lock.proofs.Histories.{goes_nowhere, goes_more}
+use Rattle.turn_lock.proofs.Histories.{goes_nowhere, goes_more, same_last}
 use Rattle.turn_lock.proofs.Rows.{sum_at, each_set, apart_set, in_bounds, some_set, some_one}
 use Rattle.turn_lock.proofs.Facts.{Knows, facts, ruled}
 use Rattle.turn_lock.proofs.WordSteps.{first_or, only_turn}
@@ -45,7 +45,7 @@ module _ {M E B : Type 0} (history : M → List E) (actor : E → ℕ) (base : M
       let grown : log ≡ r.log ++ e ∷ [] = one_more ∙ ap (λ (z : List E). z ++ e ∷ []) all_noted in
       let found : n ≡ length r.log = ap (λ (ws : List ℕ). get_or ws 0 0) r.words in
       let count : length log ≡ length r.log + 1 = ap length grown ∙ length-append r.log (e ∷ []) in
-      let w : V = record v { stage = InTurn (ticket_of v.stage) log true; prefix = log; places = v.places ++ (n + 1) ∷ [] } in
+      let w : V = record v { stage = InTurn (ticket_of v.stage) log (Some e); prefix = log; places = v.places ++ (n + 1) ∷ [] } in
       let one : tickets v.stage ≡ 1 = turn_tickets v.stage is in
       let live : IsLive v = k.waits (omega (arith, one)) in
       let not_theirs : (j : ℕ) (u : V) → j ≢ id → get_elem? l j ≡ some u → ¬ Contains u.actors (actor e) = λ j u other f h. other (r.actors_apart j id u v (actor e) f at h own) in (
@@ -98,6 +98,7 @@ module _ {M E B : Type 0} (history : M → List E) (actor : E → ℕ) (base : M
             | out f someone ↦ out f (some_set IsInTurn l id v w at (λ _. refl) someone)
           ];
         },
-        λ x' has'. let same : x ≡ x' = ap (first_or x) (sym has ∙ has') in
-            (omega (arith, ap (λ (z : M). length (history z)) same, count, found), λ i. ((record v { stage = InTurn (ticket_of v.stage) (history (same i)) true; prefix = history (same i); places = v.places ++ (n + 1) ∷ [] }), me.1)),
+        λ x' e' has' more'. let same : x ≡ x' = ap (first_or x) (sym has ∙ has') in
+            let one_event : e ≡ e' = same_last (noted v.stage) e e' (sym one_more ∙ ap history same ∙ more') in
+            (omega (arith, ap (λ (z : M). length (history z)) same, count, found), λ i. ((record v { stage = InTurn (ticket_of v.stage) (history (same i)) (Some (one_event i)); prefix = history (same i); places = v.places ++ (n + 1) ∷ [] }), me.1)),
       )

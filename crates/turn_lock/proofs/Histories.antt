@@ -30,6 +30,11 @@ module _ {E : Type 0} where
   all_of_it : (xs r log : List E) → xs ++ r ≡ log → length log ≤ length xs → xs ≡ log
   all_of_it xs r log e le = let none_left : r ≡ [] = nil_from_length r (omega (arith, length-append xs r, ap length e)) in sym (append-nil xs) ∙ ap (λ (z : List E). xs ++ z) (sym none_left) ∙ e
 
+  -- one list goes on by one event in one way
+  pub same_last : (xs : List E) (e f : E) → xs ++ e ∷ [] ≡ xs ++ f ∷ [] → e ≡ f
+  same_last [] e f same = cc (same)
+  same_last (x ∷ xs) e f same = let tails : xs ++ e ∷ [] ≡ xs ++ f ∷ [] = cc (same) in same_last xs e f tails
+
   pub longer_left : (xs ys log : List E) (r : List E) → xs ≡ log → ys ++ r ≡ log → longer xs ys ≡ log
   longer_left xs ys log r e f = by_lt (length xs) (length ys) (λ b. cond b ys xs ≡ log) (λ lt. all_of_it ys r log f (omega (arith, ap length e))) (λ _. e)
 

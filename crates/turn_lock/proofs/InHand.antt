@@ -2,8 +2,7 @@
 use Rattle.std.proofs.Common.{◌≡◌, ℕ, zero, suc, Option, Some, None, IsSome, IsSomeAnd, List, [], ◌∷◌, refl, subst}
 use Rattle.std.proofs.lemmas.Bool.{false≢true}
 use Rattle.atomic_table.specs.Table.{rest}
-use Rattle.turn_lock.specs.Pass.{value_of}
-use Rattle.turn_lock.specs.Held.{machine_of}
+use Rattle.turn_lock.specs.Kept.{value_of, machine_of}
 
 module _ {A : Type 0} where
   pub something : (o : Option A) → IsSome o → (x : A) × (o ≡ Some x)

@@ -1,5 +1,5 @@
--- The steps on a word keep the rule, from any state that meets it: draw, look, pass on, meet and settle.
-use Rattle.std.proofs.Common.{◌≡◌, ◌≢◌, ℕ, ◌+◌, ◌%◌, ◌^◌, ◌<◌, false, Some, List, [], ◌∷◌, length, get_or, set, sym, refl, ap, ◌∙◌, subst, ◌⊎◌, inl, inr, ⊎_elim, arith}
+-- The steps on a word keep the rule, from any state that meets it: draw, look, hand on, meet and settle.
+use Rattle.std.proofs.Common.{◌≡◌, ◌≢◌, ℕ, ◌+◌, ◌%◌, ◌^◌, ◌<◌, Some, None, List, [], ◌∷◌, length, get_or, set, sym, refl, ap, ◌∙◌, subst, ◌⊎◌, inl, inr, ⊎_elim, arith}
 use Rattle.std.proofs.Math.Nat.{mod-add-mod}
 use Rattle.std.proofs.lemmas.Bool.{false≢true}
 use mathlib.Core.Logic.{dite}
@@ -16,7 +16,7 @@ use Rattle.turn_lock.specs.History.{GoesOn}
 use Rattle.turn_lock.specs.Views.{HasTicket, tickets, ticket_of, noted, TicketOf, ActorOf, PlaceOf, ticket_count, share_count, place_count, IsLive, IsInTurn}
 use Rattle.turn_lock.specs.Rule.{IsPlaced, IsJoined, Ruled}
 use Rattle.turn_lock.specs.Rule.IsPlaced.{at_home, out}
-use Rattle.turn_lock.specs.Steps.{SeatState, Draws, Enters, Looks, PassesOn, Meets, Settles}
+use Rattle.turn_lock.specs.Steps.{SeatState, Draws, Enters, Looks, HandsOn, Meets, Settles}
 use Rattle.turn_lock.proofs.Stages.{turn_ticket, turn_tickets, not_turn}
 use Rattle.turn_lock.proofs.Histories.{goes_nowhere, goes_longer}
 use Rattle.turn_lock.proofs.Rows.{sum_at, sum_one, each_set, apart_set, in_bounds, one_entry, some_set, some_unset, some_one}
@@ -154,7 +154,7 @@ module _ {M E B : Type 0} (history : M → List E) (actor : E → ℕ) (base : M
       let near : t < r.served + 2 ^ 64 = omega (arith, few_out history actor base seats b s r, r.few, mine.1) in
       let now : r.served ≡ t = one_turn r.served t (2 ^ 64) mine.0 near found in
       let x = at_turn s r id t v at is (sym now) in
-      let st : Stage E = InTurn (ticket_of v.stage) (history x.0) false in
+      let st : Stage E = InTurn (ticket_of v.stage) (history x.0) None in
       let w : V = changed v st v.prefix in
       let one : tickets v.stage ≡ 1 = ap tickets is in
       let live : IsLive v = k.waits (omega (arith, one)) in (
@@ -187,9 +187,9 @@ module _ {M E B : Type 0} (history : M → List E) (actor : E → ℕ) (base : M
         waits_on history actor base me (get_or s.words 2 0) (λ hit. miss (hit ∙ ap (λ (z : ℕ). z % 2 ^ 64) named)),
       ))
 
-  pub passes : (slots id : ℕ) (x : M) (me : SeatState M E B) → IsInTurn me.0 → me.1 ≡ (0, x) ∷ [] → me.0.base ≡ Some (base x) → history x ≡ noted me.0.stage
-      → Allows Rule slots id me 2 (λ n. (n + 1) % 2 ^ 64) (PassesOn me)
-  passes slots id x me is has from exact s rule _ at _ = let r = facts history actor base seats b s rule in let v : V = me.0 in let k = r.each id v at in let t : ℕ = ticket_of v.stage in let xs : List E = noted v.stage in let w : V = changed v Idle xs in
+  pub hands_on : (slots id : ℕ) (x : M) (me : SeatState M E B) → IsInTurn me.0 → me.1 ≡ (0, x) ∷ [] → me.0.base ≡ Some (base x) → history x ≡ noted me.0.stage
+      → Allows Rule slots id me 2 (λ n. (n + 1) % 2 ^ 64) (HandsOn me)
+  hands_on slots id x me is has from exact s rule _ at _ = let r = facts history actor base seats b s rule in let v : V = me.0 in let k = r.each id v at in let t : ℕ = ticket_of v.stage in let xs : List E = noted v.stage in let w : V = changed v Idle xs in
       let one : tickets v.stage ≡ 1 = turn_tickets v.stage is in
       let now = k.turn is in
       let all_noted : xs ≡ r.log = k.note is in

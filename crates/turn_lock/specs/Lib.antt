@@ -1,10 +1,12 @@
 pub mod Actors
 pub mod History
+pub mod Pass
+pub mod Turned
+pub mod Held
 pub mod Views
 pub mod Rule
 pub mod Steps
-pub mod Pass
-pub mod Held
+pub mod Kept
+pub mod HeldFields
 pub mod Lent
 pub mod Seats
-pub mod Turned

@@ -1,5 +1,5 @@
 -- The kinds of step, and what each does to the seat that makes it. `m` is the seat before, with its view and the slot in its hand, `r` the number found in the word, and `m'` the seat after.
-use Rattle.std.specs.Prelude.{◌≡◌, ◌≢◌, ℕ, ◌+◌, ◌%◌, ◌^◌, ◌<◌, true, false, Some, None, List, [], ◌∷◌, ◌++◌, length}
+use Rattle.std.specs.Prelude.{◌≡◌, ◌≢◌, ℕ, ◌+◌, ◌%◌, ◌^◌, ◌<◌, Some, None, List, [], ◌∷◌, ◌++◌, length}
 use Rattle.std.specs.List.Sorted.{IsStrictlyIncreasing}
 use Rattle.atomic_table.specs.Table.{Me, rest}
 use Rattle.turn_lock.specs.declared.views.View.{View}
@@ -18,20 +18,20 @@ Draws m r m' = (t : ℕ) × (r ≡ t % 2 ^ 64) × (m' ≡ (record m.0 { stage = 
 module _ {M E B : Type 0} (history : M → List E) (actor : E → ℕ) (base : M → B) where
   -- the view is in turn and notes the whole history, which goes on from what it had seen; the machine, which has it, comes out
   abbrev pub Enters : SeatState M E B → SeatState M E B → Type 0
-  Enters m m' = (x : M) × (m' ≡ (record m.0 { stage = InTurn (ticket_of m.0.stage) (history x) false }, (0, x) ∷ m.1)) × (m.0.base ≡ Some (base x)) × GoesOn actor m.0.actors m.0.prefix (history x)
+  Enters m m' = (x : M) × (m' ≡ (record m.0 { stage = InTurn (ticket_of m.0.stage) (history x) None }, (0, x) ∷ m.1)) × (m.0.base ≡ Some (base x)) × GoesOn actor m.0.actors m.0.prefix (history x)
 
   -- look, a load of the serving word: the view is in turn where it finds its ticket
   abbrev pub Looks : SeatState M E B → ℕ → SeatState M E B → Type 0
   Looks m r m' = (r ≡ ticket_of m.0.stage % 2 ^ 64 → Enters m m') × (r ≢ ticket_of m.0.stage % 2 ^ 64 → m' ≡ m)
 
--- commit, a fetch_add on the history word: the view gets the longer prefix, which is the history of the machine in hand, and the place, and notes them
+-- commit, a fetch_add on the history word: the view gets the longer prefix, which is the history of the machine in hand, and the place, and notes that history and its last event
 abbrev pub Commits : {M E B : Type 0} → (M → List E) → SeatState M E B → ℕ → SeatState M E B → Type 0
-Commits {M} history m r m' = (x : M) → m.1 ≡ (0, x) ∷ []
-    → (r + 1 ≡ length (history x)) × (m' ≡ (record m.0 { stage = InTurn (ticket_of m.0.stage) (history x) true; prefix = history x; places = m.0.places ++ (r + 1) ∷ [] }, m.1))
+Commits {M} {E} history m r m' = (x : M) (e : E) → m.1 ≡ (0, x) ∷ [] → history x ≡ noted m.0.stage ++ e ∷ []
+    → (r + 1 ≡ length (history x)) × (m' ≡ (record m.0 { stage = InTurn (ticket_of m.0.stage) (history x) (Some e); prefix = history x; places = m.0.places ++ (r + 1) ∷ [] }, m.1))
 
--- pass on, a fetch_add on the serving word: the view gives its ticket and its note up, and has seen what it had noted; the machine goes home
-abbrev pub PassesOn : {M E B : Type 0} → SeatState M E B → ℕ → SeatState M E B → Type 0
-PassesOn m r m' = m' ≡ (record m.0 { stage = Idle; prefix = noted m.0.stage }, rest m.1)
+-- hand on, a fetch_add on the serving word: the view gives its ticket and its note up, and has seen what it had noted; the machine goes home
+abbrev pub HandsOn : {M E B : Type 0} → SeatState M E B → ℕ → SeatState M E B → Type 0
+HandsOn m r m' = m' ≡ (record m.0 { stage = Idle; prefix = noted m.0.stage }, rest m.1)
 
 -- meet, a load of the history word: the view gets the longest prefix
 abbrev pub Meets : {M E B : Type 0} → (E → ℕ) → SeatState M E B → ℕ → SeatState M E B → Type 0

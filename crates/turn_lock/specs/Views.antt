@@ -1,5 +1,5 @@
 -- What a seat's view says.
-use Rattle.std.specs.Prelude.{◌≡◌, ℕ, ◌<◌, Bool, true, false, IsTrue, List, [], length, Contains}
+use Rattle.std.specs.Prelude.{◌≡◌, ℕ, ◌<◌, Bool, true, false, IsTrue, Option, None, List, [], length, Contains}
 use Rattle.turn_lock.specs.declared.views.View.{View}
 use Rattle.turn_lock.specs.declared.views.Stage.{Stage}
 use Rattle.turn_lock.specs.declared.views.Stage.TheVariants.{Idle, Waiting, InTurn}
@@ -8,32 +8,32 @@ module _ {E : Type 0} where
   -- the seat has this ticket
   abbrev pub HasTicket : Stage E → ℕ → Type 0
   HasTicket (Waiting t) n = t ≡ n
-  HasTicket (InTurn t xs b) n = t ≡ n
+  HasTicket (InTurn t xs o) n = t ≡ n
   HasTicket _ n = ⊥
 
   -- how many tickets it has, and which
   abbrev pub tickets : Stage E → ℕ
   tickets (Waiting t) = 1
-  tickets (InTurn t xs b) = 1
+  tickets (InTurn t xs o) = 1
   tickets _ = 0
 
   abbrev pub ticket_of : Stage E → ℕ
   ticket_of (Waiting t) = t
-  ticket_of (InTurn t xs b) = t
+  ticket_of (InTurn t xs o) = t
   ticket_of _ = 0
 
   abbrev pub in_turn : Stage E → Bool
-  in_turn (InTurn t xs b) = true
+  in_turn (InTurn t xs o) = true
   in_turn _ = false
 
-  -- the history that a seat in turn has noted, and whether it has committed
+  -- the history that a seat in turn has noted, and the event that it has committed
   abbrev pub noted : Stage E → List E
-  noted (InTurn t xs b) = xs
+  noted (InTurn t xs o) = xs
   noted _ = []
 
-  abbrev pub has_committed : Stage E → Bool
-  has_committed (InTurn t xs b) = b
-  has_committed _ = false
+  abbrev pub committed_of : Stage E → Option E
+  committed_of (InTurn t xs o) = o
+  committed_of _ = None
 
   -- 0 where the seat is idle
   abbrev pub busy : Stage E → ℕ

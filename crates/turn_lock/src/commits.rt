@@ -1,24 +1,28 @@
 //! A turn commits its event, and is left.
-ghost use Rattle.std.specs.Prelude.{◌≡◌, ◌∷◌, ◌++◌, [], true, false, length, IsSomeAnd};
-ghost use Rattle.turn_lock.specs.Held.{holding, IsHeld, IsSettled, AddsOne};
+ghost use Rattle.std.specs.Prelude.{◌≡◌, ◌∷◌, ◌++◌, [], length};
+ghost use Rattle.turn_lock.specs.Held.{IsSettled, AddsOne};
+ghost use Rattle.turn_lock.specs.HeldFields.{holding, IsHeld};
+ghost use Rattle.turn_lock.specs.Turned.{Stays, Adds};
 
 use crate::lock::{Held, Pass};
 use crate::machine::Machine;
-use crate::plays::{Commit, PassOn};
+use crate::plays::{Commit, HandOn};
 
 impl<'a, M: Machine> Held<'a, M> {
     /// Commits the one event that the machine in hand has more, and answers its place, counted from 1.
     pub fn commit(&mut self) -> u64
-        requires held { IsHeld self.old }
-        requires fresh { (holding self.old).committed ≡ false }
+        requires held { IsHeld M.actor self.old }
+        requires fresh { (holding self.old).committed ≡ None }
         requires adds { AddsOne M.history M.base M.actor (holding self.old) }
-        ensures held { IsHeld self.new }
+        ensures held { IsHeld M.actor self.new }
+        ensures entered { (holding self.new).entered ≡ (holding self.old).entered }
         ensures place { result ≡ length (holding self.new).pass.prefix }
         ensures pass { (holding self.new).pass ≡ record (holding self.old).pass {
           prefix = (holding self.new).pass.prefix;
           commits = (holding self.old).pass.commits ++ result ∷ [];
         } }
-        ensures committed { (holding self.new).committed ≡ true }
+        ensures committed { (e : M.Event) → (holding self.new).pass.prefix ≡ (holding self.old).pass.prefix ++ e ∷ []
+            → (holding self.new).committed ≡ Some e }
         ensures machine { (holding self.new).machine ≡ (holding self.old).machine }
         ensures settled { IsSettled M.history M.base (holding self.new) }
     {
@@ -28,11 +32,15 @@ impl<'a, M: Machine> Held<'a, M> {
         place
     }
 
-    /// Gives the machine back and passes the turn on. The pass has then seen the whole history.
+    /// Gives the machine back and hands the turn on. The pass has then seen the whole history, and has what it had at entry and
+    /// the event that was committed, if there is one.
     pub fn leave(self) -> Pass<M>
-        requires held { IsHeld self }
+        requires held { IsHeld M.actor self }
         requires settled { IsSettled M.history M.base (holding self) }
-        ensures { result ≡ (holding self.entry).pass }
+        ensures pass { result ≡ (holding self.entry).pass }
+        ensures stays { (holding self.entry).committed ≡ None → Stays M.actor (holding self.entry).entered result }
+        ensures adds { (e : M.Event) → (holding self.entry).committed ≡ Some e
+            → Adds M.actor (holding self.entry).entered e (length result.prefix) result }
     {
         let Held {
             turn,
@@ -40,7 +48,7 @@ impl<'a, M: Machine> Held<'a, M> {
             shares,
             pass: _,
         } = self;
-        turn.table.shared.fetch_add::<PassOn>(&mut seat, 2, 1);
+        turn.table.shared.fetch_add::<HandOn>(&mut seat, 2, 1);
         turn.table.shared.wake_all(2);
         Pass { seat, shares }
     }

@@ -48,6 +48,9 @@ impl<M: Machine> Turn<M> {
         requires shares { (1 ≤ shares) × (shares < length pass.actors) }
         ensures first { result.0 ≡ record pass { actors = lower shares pass.actors } }
         ensures second { result.1 ≡ record pass { actors = upper shares pass.actors; commits = [] } }
+        ensures lower { length result.0.actors + shares ≡ length pass.actors }
+        ensures upper { length result.1.actors ≡ shares }
+        ensures whole { result.0.actors ++ result.1.actors ≡ pass.actors }
     {
         let Pass {
             mut seat,
@@ -97,6 +100,7 @@ impl<M: Machine> Turn<M> {
         ensures first { GoesOn M.actor a.actors a.prefix result.prefix }
         ensures second { GoesOn M.actor b.actors b.prefix result.prefix }
         ensures rise { IsStrictlyIncreasing result.actors }
+        ensures shares { length result.actors ≡ length a.actors + length b.actors }
     {
         let Pass {
             mut seat,

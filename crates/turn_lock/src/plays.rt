@@ -1,6 +1,6 @@
 //! What each step tells its seat, and how seats are split and joined. These types are for the proofs alone.
 ghost use Rattle.std.specs.Prelude.{ℕ};
-ghost use Rattle.turn_lock.specs.Steps.{Draws, Looks, Commits, PassesOn, Meets, Settles, lower_view, upper_view, joint_view, spent_view};
+ghost use Rattle.turn_lock.specs.Steps.{Draws, Looks, Commits, HandsOn, Meets, Settles, lower_view, upper_view, joint_view, spent_view};
 
 use crate::machine::Machine;
 use crate::views::View;
@@ -25,10 +25,10 @@ impl<M: Machine> Play<M, View<M::Event, M::Base>> for Commit {
     ghost then = { λ _. Commits M.history };
 }
 
-pub(crate) struct PassOn;
+pub(crate) struct HandOn;
 
-impl<M, E, B> Play<M, View<E, B>> for PassOn {
-    ghost then = { λ _. PassesOn };
+impl<M, E, B> Play<M, View<E, B>> for HandOn {
+    ghost then = { λ _. HandsOn };
 }
 
 pub(crate) struct Meet;

@@ -1,61 +1,14 @@
-ghost use Rattle.std.specs.Prelude.{◌≡◌, ◌∷◌, ◌++◌, [], Contains, MatchOption, MatchResult};
+ghost use Rattle.std.specs.Prelude.{◌≡◌, Contains, MatchOption};
 ghost use Rattle.turn_lock.specs.Turned.{Stays, Adds};
 
-use crate::{Machine, Pass, Turn};
+mod log;
+
+use crate::{Pass, Turn};
 use cal_value::NoMemory;
-use std::alloc::Global;
+use log::{Entry, Log};
 use std::sync::Wait;
 use std::test::Fail;
 use std::thread::{Threads, join};
-
-/// Who made it, and the how-manieth of its maker it is.
-#[derive(Clone, Copy, Debug, PartialEq, Eq)]
-struct Entry {
-    actor: u32,
-    number: u64,
-}
-
-/// A list of numbered events, which begins from a name.
-#[derive(Drop)]
-struct Log {
-    name: u32,
-    entries: Vec<Entry>,
-}
-
-impl Machine for Log {
-    type Event = Entry;
-
-    type Base = u32;
-
-    ghost history = { λ log. log.entries.items };
-
-    ghost actor = { λ entry. entry.actor };
-
-    ghost base = { λ log. log.name };
-
-    fn count(&self) -> u64 {
-        self.entries.len() as u64
-    }
-}
-
-impl Log {
-    fn new(alloc: Global, name: u32) -> Log
-        ensures { (result.name ≡ name) × (result.entries.items ≡ []) }
-    {
-        Log {
-            name,
-            entries: Vec::new(alloc),
-        }
-    }
-
-    fn add(&mut self, entry: Entry) -> Result<(), NoMemory>
-        ensures name { self.new.name ≡ self.old.name }
-        ensures entries { MatchResult result (λ _. self.new.entries.items ≡ self.old.entries.items ++ entry ∷ []) (λ _. self.new.entries.items ≡ self.old.entries.items) }
-    {
-        self.entries.push(entry)?;
-        Ok(())
-    }
-}
 
 // One turn, in which this entry is committed where there is memory, and the place of the entry.
 fn commit_one<R: Wait>(
@@ -146,8 +99,9 @@ fn a_pass_meets_what_another_committed(rt: HostRuntime) -> Result<(), Fail> {
     let pass = turn.join(first, second);
     assert_eq!(rt; pass.shares(), 2);
     let log = turn.close(pass);
-    assert_eq!(rt; log.name, 7);
-    assert_eq!(rt; log.entries.as_slice(), entries.as_slice());
+    assert_eq!(rt; log.name(), 7);
+    assert_eq!(rt; log.sum(), 1);
+    assert_eq!(rt; log.entries(), entries.as_slice());
     Ok(())
 }
 
@@ -160,7 +114,7 @@ fn two_threads_commit_in_turn(rt: HostRuntime) -> Result<(), Fail> {
     let pass = turn.join(third, turn.join(second, first));
     assert_eq!(rt; pass.shares(), turn.seats());
     let log = turn.close(pass);
-    let entries = log.entries.as_slice();
+    let entries = log.entries();
     assert_eq!(rt; entries.len(), 200);
     assert_eq!(rt; count_in_order(entries, 0), Some(100));
     assert_eq!(rt; count_in_order(entries, 1), Some(100));

@@ -1,11 +1,12 @@
 //! How a lock is made and closed, and how a pass enters.
-ghost use Rattle.std.specs.Prelude.{◌≡◌, ◌≢◌, ◌≤◌, false, IfOk, length};
+ghost use Rattle.std.specs.Prelude.{◌≡◌, ◌≢◌, ◌≤◌, IfOk, length};
 ghost use Rattle.std.specs.List.{range_with_len};
 ghost use Rattle.std.specs.List.Sorted.{IsPermutation};
-ghost use Rattle.turn_lock.specs.History.{GoesOn};
 ghost use Rattle.turn_lock.specs.Seats.{Rests, IsSame, Waits};
 ghost use Rattle.turn_lock.specs.Steps.{Draws, Enters};
-ghost use Rattle.turn_lock.specs.Held.{holding, IsHeld, IsSettled};
+ghost use Rattle.turn_lock.specs.Held.{IsSettled};
+ghost use Rattle.turn_lock.specs.HeldFields.{holding, IsHeld};
+ghost use Rattle.turn_lock.specs.Turned.{Stays};
 
 use crate::lock::{Held, Pass, Turn};
 use crate::machine::Machine;
@@ -78,10 +79,10 @@ impl<M: Machine> Turn<M> {
     /// Waits for the turn of the pass. What the history has past the prefix of the pass is by none of its actors.
     pub fn enter<R: Wait>(&self, rt: &R, pass: Pass<M>) -> Held<'_, M>
         requires { pass.lock ≡ self.now.id }
-        ensures held { IsHeld result }
-        ensures pass { (holding result).pass ≡ record pass { prefix = (holding result).pass.prefix } }
-        ensures more { GoesOn M.actor pass.actors pass.prefix (holding result).pass.prefix }
-        ensures fresh { (holding result).committed ≡ false }
+        ensures held { IsHeld M.actor result }
+        ensures entered { (holding result).entered ≡ pass }
+        ensures stays { Stays M.actor pass (holding result).pass }
+        ensures fresh { (holding result).committed ≡ None }
         ensures settled { IsSettled M.history M.base (holding result) }
     {
         let known = Snapshot::of(&pass);

@@ -16,7 +16,8 @@ pub enum Stage<E> {
         ticket: u64,
         /// The whole history, with the committed event.
         noted: LinkedList<E>,
-        committed: bool,
+        /// The event that it has committed.
+        committed: Option<E>,
     },
     /// It was just made of two seats, of which it keeps the prefixes and the actors.
     Joining {
