@@ -1,8 +1,10 @@
 -- Lists of actors and of places.
-use Rattle.std.proofs.Common.{◌≡◌, ◌≢◌, ℕ, zero, suc, ◌+◌, ◌-◌, ◌<◌, ◌≤◌, List, [], ◌∷◌, ◌++◌, length, get_or, take, drop, refl, sym, subst, ◌⊎◌, inl, inr, ⊎_elim, cond, slice_index, arith, length-drop}
+use Rattle.std.proofs.Common.{◌≡◌, ◌≢◌, ℕ, zero, suc, ◌+◌, ◌-◌, ◌<◌, ◌≤◌, List, [], ◌∷◌, ◌++◌, length, get_or, take, drop, refl, sym, ap, ◌∙◌, subst, ◌⊎◌, inl, inr, ⊎_elim, cond, slice_index, arith, length-drop}
 use Rattle.std.specs.List.{Contains, range_with_len, remove}
 use Rattle.std.specs.List.Sorted.{IsStrictlyIncreasing, IsPermutation}
 use Rattle.std.proofs.lemmas.List.{nil_from_length, take-append-drop, length-take-le}
+use Rattle.std.proofs.lemmas.List.FromFn.{length-range_with_len}
+use Rattle.std.proofs.Math.Seq.{take-append_seam, drop-append_seam}
 use Rattle.std.proofs.lemmas.List.Sorted.{IsPermutation-refl, IsPermutation-trans, IsPermutation-cons, IsPermutation-remove, Contains-permutation, length_permutation}
 use Rattle.turn_lock.specs.Actors.{put, merged, lower, upper}
 use Rattle.turn_lock.proofs.Comparing.{by_lt}
@@ -136,6 +138,28 @@ module _ (n : ℕ) (xs : List ℕ) where
 
     pub parts_differ : (a : ℕ) → Contains (lower n xs) a → ¬ Contains (upper n xs) a
     parts_differ a c d = parts_apart 0 (length xs - n) xs a (rising xs up) (has (lower n xs) a c) (has (upper n xs) a d)
+
+range_append : (low m n : ℕ) → range_with_len low (m + n) ≡ range_with_len low m ++ range_with_len (low + m) n
+range_append low zero n = let e : zero + n ≡ n = omega arith in let f : low ≡ low + zero = omega arith in λ i. range_with_len (f i) (e i)
+range_append low (suc m) n = let e : suc m + n ≡ suc (m + n) = omega arith in let f : (low + 1) + m ≡ low + suc m = omega arith in
+    ap (range_with_len low) e ∙ ap (λ l. low ∷ l) (range_append (low + 1) m n ∙ ap (λ k. range_with_len (low + 1) m ++ range_with_len k n) f)
+
+-- numbers in a row are cut in two
+module _ (low m n : ℕ) where
+  abbrev first_part : List ℕ
+  first_part = range_with_len low m
+
+  abbrev last_part : List ℕ
+  last_part = range_with_len (low + m) n
+
+  cut_at : length (range_with_len low (m + n)) - n ≡ length first_part
+  cut_at = omega (arith, length-range_with_len low (m + n), length-range_with_len low m)
+
+  pub lower_range : lower n (range_with_len low (m + n)) ≡ range_with_len low m
+  lower_range = (λ i. take (cut_at i) (range_append low m n i)) ∙ take-append_seam first_part last_part
+
+  pub upper_range : upper n (range_with_len low (m + n)) ≡ range_with_len (low + m) n
+  upper_range = (λ i. drop (cut_at i) (range_append low m n i)) ∙ drop-append_seam first_part last_part
 
 has_put : (a : ℕ) (xs : List ℕ) (c : ℕ) → Has (put a xs) c → (a ≡ c) ⊎ Has xs c
 has_put a [] c h = ⊎_elim (λ e. inl e) (λ t. absurd t) h

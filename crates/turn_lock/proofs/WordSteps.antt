@@ -157,7 +157,8 @@ module _ {M E B : Type 0} (history : M → List E) (actor : E → ℕ) (base : M
       let st : Stage E = InTurn (ticket_of v.stage) (history x.0) None in
       let w : V = changed v st v.prefix in
       let one : tickets v.stage ≡ 1 = ap tickets is in
-      let live : IsLive v = k.waits (omega (arith, one)) in (
+      let live : IsLive v = k.waits (omega (arith, one)) in
+      let m' : SeatState M E B = (w, (0, x.0) ∷ me.1) in (
         w,
         takes 0 x.0,
         ap (λ (hs : List (Option M)). get_elem? hs 0) x.1,
@@ -177,7 +178,7 @@ module _ {M E B : Type 0} (history : M → List E) (actor : E → ℕ) (base : M
             }
             (λ j u _ e. r.each j u e) (λ n h. inl (subst (HasTicket v.stage) (sym named ∙ h) (has_ticket v.stage t is))) (λ e. e)
             (out (ap (λ (hs : List (Option M)). set hs 0 none) x.1) (some_one IsInTurn s.views id w (in_bounds s.views id v at) refl)),
-        looked history actor base me (w, (0, x.0) ∷ me.1) (get_or s.words 2 0) (hit ∙ ap (λ (z : ℕ). z % 2 ^ 64) (sym named)) (x.0, refl, k.base live ∙ ap Some (sym x.2), subst (GoesOn actor v.actors v.prefix) (sym x.3) k.seen),
+        looked history actor base me m' (get_or s.words 2 0) (hit ∙ ap (λ (z : ℕ). z % 2 ^ 64) (sym named)) (x.0, refl {a = m'}, k.base live ∙ ap Some (sym x.2), subst (GoesOn actor v.actors v.prefix) (sym x.3) k.seen),
       ))
       (λ miss. (
         v,

@@ -1,16 +1,38 @@
 ghost use Rattle.std.specs.Prelude.{◌≡◌, Contains, MatchOption};
+ghost use Rattle.turn_lock.specs.Held.{IsSettled};
+ghost use Rattle.turn_lock.specs.HeldFields.{holding, IsHeld};
 ghost use Rattle.turn_lock.specs.Turned.{Stays, Adds};
 
 mod log;
 
-use crate::{Pass, Turn};
+use crate::{Held, Machine, Pass, Turn};
 use cal_value::NoMemory;
 use log::{Entry, Log};
 use std::sync::Wait;
 use std::test::Fail;
 use std::thread::{Threads, join};
 
-// One turn, in which this entry is committed where there is memory, and the place of the entry.
+// What is done in a turn: this entry is committed where there is memory, and its place is answered.
+fn commit_in_turn(held: Held<'_, Log>, entry: Entry) -> (Pass<Log>, Option<u64>)
+    requires held { IsHeld ⟦<Log as Machine>⟧.actor held }
+    requires fresh { (holding held).committed ≡ None }
+    requires settled { IsSettled ⟦<Log as Machine>⟧.history ⟦<Log as Machine>⟧.base (holding held) }
+    requires own { Contains (holding held).pass.actors entry.actor }
+    ensures { MatchOption result.1
+        (Stays ⟦<Log as Machine>⟧.actor (holding held.entry).entered result.0)
+        (λ place. Adds ⟦<Log as Machine>⟧.actor (holding held.entry).entered entry place result.0) }
+{
+    let mut held = held;
+    match held.machine().add(entry) {
+        Ok(()) => {
+            let place = held.commit();
+            (held.leave(), Some(place))
+        }
+        Err(NoMemory) => (held.leave(), None),
+    }
+}
+
+// One turn of the pass.
 fn commit_one<R: Wait>(
     rt: &R,
     turn: &Turn<Log>,
@@ -19,16 +41,11 @@ fn commit_one<R: Wait>(
 ) -> (Pass<Log>, Option<u64>)
     requires lock { pass.lock ≡ turn.now.id }
     requires own { Contains pass.actors entry.actor }
-    ensures { MatchOption result.1 (Stays (λ e. e.actor) pass result.0) (λ place. Adds (λ e. e.actor) pass entry place result.0) }
+    ensures { MatchOption result.1
+        (Stays ⟦<Log as Machine>⟧.actor pass result.0)
+        (λ place. Adds ⟦<Log as Machine>⟧.actor pass entry place result.0) }
 {
-    let mut held = turn.enter(rt, pass);
-    match held.machine().add(entry) {
-        Ok(()) => {
-            let place = held.commit();
-            (held.leave(), Some(place))
-        }
-        Err(NoMemory) => (held.leave(), None),
-    }
+    commit_in_turn(turn.enter(rt, pass), entry)
 }
 
 // So many turns, each with an entry of this actor.
