@@ -12,7 +12,8 @@ use Rattle.cal_value.specs.declared.operator.Op.TheVariants.{Add, Subtract, Mult
 use Rattle.cal_value.specs.declared.value.Value.{Value}
 use Rattle.cal_value.specs.declared.value.Value.TheVariants.{Null, Bool as BoolValue, Int, Text}
 use Rattle.cal_value.specs.Interval.{IsWithin, at_ends, excludes_zero, negated as negated_interval}
-use Rattle.cal_value.specs.Types.{IsAtMostAsWide, AreAtMostAsWide, StillTyped, boolean_type, text_type, number_type, same_kind, is_integer, is_boolean}
+use Rattle.cal_value.specs.Narrower.{StillTyped}
+use Rattle.cal_value.specs.Types.{IsAtMostAsWide, AreAtMostAsWide, boolean_type, text_type, number_type, same_kind, is_integer, is_boolean}
 use Rattle.cal_value.proofs.IntervalLaws.{within-sum, within-difference, within-product, within-quotient, within-excludes_zero, within-negation}
 use Rattle.cal_value.proofs.TypeLaws.{number_type-narrower}
 use Rattle.cal_value.proofs.TypeLemmas.{and-both, or-left, or-right, same_kind-is}

@@ -143,4 +143,4 @@ in_range ts e t is k = (ranged IsAny (λ f i j. tt) (λ i h. tt) (λ n. tt) ts (
 
 -- of columns whose ends stand in order
 pub proper_type : (ts : List SqlType) (e : Expr) (t : SqlType) → All IsProperType ts → type_of e ts ≡ Some t → IsProperType t
-proper_type ts e t all is k = (ranged IsProper proper-at_ends proper-negated ≤ℤ_refl ts all e t is k).kept
+proper_type ts e t all is k = (ranged IsProper proper-at_ends (λ i p. proper-negated i) ≤ℤ_refl ts all e t is k).kept

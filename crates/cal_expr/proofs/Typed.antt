@@ -26,7 +26,8 @@ use Rattle.cal_expr.specs.declared.expr.Expr.TheVariants.{Binary, Negate, rolls-
 use Rattle.cal_expr.specs.declared.expr.Expr.TheViews.{roll-Expr}
 use Rattle.cal_expr.specs.Meaning.{meaning_of, meaning_step, of_numbers, quotient, compared, passes, applied, negated}
 use Rattle.cal_expr.specs.Typing.{type_of, type_step, literal_type, column_type, negation_type, not_type, arithmetic_type, quotient_type, comparison_type, connective_type, op_type, of_both, either_nullable}
-use Rattle.cal_expr.specs.WellFormed.{IsWellFormed, IsWellTyped, CanApply}
+use Rattle.cal_expr.specs.Held.{CanApply}
+use Rattle.cal_expr.specs.WellFormed.{IsWellFormed, IsWellTyped}
 
 -- ---- what an answer of a type function says
 

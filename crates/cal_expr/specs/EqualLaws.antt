@@ -4,7 +4,8 @@ use Rattle.std.specs.Bool.{Decides}
 use Rattle.std.specs.Cmp.{IsEquivalence}
 use Rattle.std.proofs.Common.{sym, ap, subst, ◌∙◌}
 use Rattle.std.proofs.lemmas.Bool.Decides.{Decides-eqb, Decides-like, Decides-at, Decides-and}
-use Rattle.cal_value.specs.Equal.{value_eq, value_eq-Decides, equivalence_from_Decides}
+use Rattle.cal_value.specs.Equal.{value_eq}
+use Rattle.cal_value.specs.EqualLaws.{value_eq-Decides, equivalence_from_Decides}
 use Rattle.cal_value.specs.declared.operator.Op.{Op}
 use Rattle.cal_value.specs.declared.operator.Op.TheVariants.{Add, Subtract, Multiply, Divide, Equal, NotEqual, Less, LessEqual, Greater, GreaterEqual, And, Or}
 use Rattle.cal_expr.specs.declared.expr.Expr.{Expr}

@@ -1,14 +1,10 @@
--- What an expression and an operation ask of values.
-use Rattle.std.specs.Prelude.{◌≡◌, IsSome, Some, List, ⊤}
+-- What an expression asks of a row, and what its value is.
+use Rattle.std.specs.Prelude.{◌≡◌, IsSome, Some, List}
 use Rattle.cal_value.specs.declared.kind.SqlType.{SqlType}
-use Rattle.cal_value.specs.declared.operator.Op.{Op}
-use Rattle.cal_value.specs.declared.operator.Op.TheVariants.{Add, Subtract, Multiply, Divide}
 use Rattle.cal_value.specs.declared.value.Value.{Value}
-use Rattle.cal_value.specs.Held.{IsHeld}
 use Rattle.cal_value.specs.Types.{IsOfType, HasTypes}
 use Rattle.cal_expr.specs.declared.expr.Expr.{Expr}
 use Rattle.cal_expr.specs.Typing.{type_of}
-use Rattle.cal_expr.specs.Meaning.{applied}
 
 -- the expression is well formed over some types that the row has
 pub record IsWellFormed (e : Expr) (row : List Value) : Type 0 where
@@ -19,11 +15,3 @@ pub record IsWellFormed (e : Expr) (row : List Value) : Type 0 where
 -- the value is of each type that the expression has over types of the row
 abbrev pub IsWellTyped : Expr → List Value → Value → Type 0
 IsWellTyped e row v = (ts : List SqlType) (t : SqlType) → HasTypes row ts → type_of e ts ≡ Some t → IsOfType v t
-
--- what the machine computes is a number of 128 bits
-abbrev pub CanApply : Op → Value → Value → Type 0
-CanApply Add a b = IsHeld (applied Add a b)
-CanApply Subtract a b = IsHeld (applied Subtract a b)
-CanApply Multiply a b = IsHeld (applied Multiply a b)
-CanApply Divide a b = IsHeld (applied Divide a b)
-CanApply op a b = ⊤

@@ -3,7 +3,8 @@ ghost use Rattle.std.specs.Prelude.{◌≡◌, IfOk};
 ghost use Rattle.cal_value.specs.Held.{IsHeld};
 ghost use Rattle.cal_expr.specs.Meaning as spec;
 ghost use Rattle.cal_expr.specs.Meaning.{meaning_of};
-ghost use Rattle.cal_expr.specs.WellFormed.{IsWellFormed, IsWellTyped, CanApply};
+ghost use Rattle.cal_expr.specs.Held.{CanApply};
+ghost use Rattle.cal_expr.specs.WellFormed.{IsWellFormed, IsWellTyped};
 
 use crate::expr::Expr;
 use cal_value::{Duplicate, NoMemory, Op, Row, Value, and3, compare_values, not3, or3, value_at};

@@ -1,7 +1,8 @@
 //! Laws of expressions, each as the contract of a function that does nothing.
 ghost use Rattle.std.specs.Prelude.{◌≡◌, Some, IsTrue, All};
 ghost use Rattle.cal_value.specs.Interval.{is_in_range};
-ghost use Rattle.cal_value.specs.Types.{AreAtMostAsWide, HasTypes, IsOfType, IsProperType, StillTyped};
+ghost use Rattle.cal_value.specs.Narrower.{StillTyped};
+ghost use Rattle.cal_value.specs.Types.{AreAtMostAsWide, HasTypes, IsOfType, IsProperType};
 ghost use Rattle.cal_expr.specs.Meaning.{meaning_of};
 ghost use Rattle.cal_expr.specs.Typing.{type_of};
 

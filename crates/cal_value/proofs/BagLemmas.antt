@@ -6,7 +6,8 @@ use Rattle.std.specs.List.Sorted.{IsPermutation}
 use Rattle.std.proofs.lemmas.List.Sorted.{IsPermutation-refl, IsPermutation-sym, IsPermutation-cons, IsPermutation-trans, IsPermutation-remove, sum_by-IsPermutation}
 use Rattle.std.proofs.lemmas.List.Sums.{sum_by-cons, AllPass-from_list_all, list_all-from_AllPass}
 use Rattle.cal_value.specs.declared.value.Value.{Value}
-use Rattle.cal_value.specs.Equal.{row_eq, row_eq-Decides}
+use Rattle.cal_value.specs.Equal.{row_eq}
+use Rattle.cal_value.specs.EqualLaws.{row_eq-Decides}
 use Rattle.cal_value.specs.Order.{SameBag}
 
 pub count_by-IsPermutation : {K : Type 0} (p : K → Bool) (xs ys : List K) → IsPermutation xs ys → count_by p xs ≡ count_by p ys

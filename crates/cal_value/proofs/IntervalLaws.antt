@@ -1,11 +1,12 @@
 -- The laws of intervals: what arithmetic on ends holds, and that narrower operands give narrower intervals.
-use Rattle.std.proofs.Common.{◌≡◌, refl, arith, ℤ, pos, ◌≤ℤ◌, ◌+ℤ◌, ◌-ℤ◌, ◌*ℤ◌, Bool, true, false, ◌&&◌}
+use Rattle.std.proofs.Common.{◌≡◌, refl, ap, ◌∙◌, arith, ℤ, pos, ◌≤ℤ◌, ◌+ℤ◌, ◌-ℤ◌, ◌*ℤ◌, Bool, true, false, ◌&&◌}
+use Rattle.std.specs.Int.{int_min, int_max}
 use Rattle.std.specs.Int.RustNames.{int_div}
 use Rattle.std.specs.Ordering.{int_eq}
 use Rattle.std.proofs.lemmas.Int.{ints, clamps}
 use Rattle.cal_value.specs.declared.interval.Interval.{Interval}
 use Rattle.cal_value.specs.declared.interval.Interval.TheVariants.{Never, Range}
-use Rattle.cal_value.specs.Interval.{Holds, IsProper, IsWithin, HoldsResults, IsLeastOfFour, hull, at_ends, negated, excludes_zero, is_in_range, is_number}
+use Rattle.cal_value.specs.Interval.{Holds, IsProper, IsWithin, HoldsResults, IsLeastOfTwo, IsLeastOfFour, hull, at_ends, negated, excludes_zero, is_in_range, is_number}
 use Rattle.cal_value.proofs.Corners.{sum-corners, difference-corners, product-corners, quotient-corners, OnOneSide, not_zero}
 use Rattle.cal_value.proofs.TypeLemmas.{and-both}
 
@@ -42,6 +43,27 @@ hull-least p q r s = record {
       (omega (arith, ints, clamps, h.0, i.0, j.0, l.0), omega (arith, ints, clamps, h.1, i.1, j.1, l.1)),
     )
 
+pub negated-least : (lo hi : ℤ) → IsLeastOfTwo (pos 0 -ℤ lo) (pos 0 -ℤ hi) (negated (Range lo hi))
+negated-least lo hi = record {
+  first = (omega (arith, ints, clamps), omega (arith, ints, clamps));
+  second = (omega (arith, ints, clamps), omega (arith, ints, clamps));
+  least = least;
+}
+  where
+    least : (k : Interval) → Holds k (pos 0 -ℤ lo) → Holds k (pos 0 -ℤ hi) → IsWithin (negated (Range lo hi)) k
+    least Never h i = absurd h
+    least (Range a b) h i = (
+      (omega (arith, ints, clamps, h.0, i.0), omega (arith, ints, clamps, h.1, i.1)),
+      (omega (arith, ints, clamps, h.0, i.0), omega (arith, ints, clamps, h.1, i.1)),
+    )
+
+-- of ends in order
+pub negated-ends : (lo hi : ℤ) → lo ≤ℤ hi → negated (Range lo hi) ≡ Range (pos 0 -ℤ hi) (pos 0 -ℤ lo)
+negated-ends lo hi h =
+    let p : int_min (pos 0 -ℤ lo) (pos 0 -ℤ hi) ≡ pos 0 -ℤ hi = omega (arith, ints, clamps, h) in
+    let q : int_max (pos 0 -ℤ lo) (pos 0 -ℤ hi) ≡ pos 0 -ℤ lo = omega (arith, ints, clamps, h) in
+    ap (λ z. Range z (int_max (pos 0 -ℤ lo) (pos 0 -ℤ hi))) p ∙ ap (Range (pos 0 -ℤ hi)) q
+
 -- ---- the results of arithmetic are in the interval that the ends give
 
 abbrev Corner : (ℤ → ℤ → ℤ) → Type 0
@@ -71,7 +93,7 @@ quotient-holds (Range a b) (Range c d) s x y h k = quotient-corners a b c d x y 
 
 pub negation-holds : (i : Interval) (x : ℤ) → Holds i x → Holds (negated i) (pos 0 -ℤ x)
 negation-holds Never x h = absurd h
-negation-holds (Range a b) x h = (omega (arith, ints, h.0, h.1), omega (arith, ints, h.0, h.1))
+negation-holds (Range a b) x h = (omega (arith, ints, clamps, h.0, h.1), omega (arith, ints, clamps, h.0, h.1))
 
 -- a divisor of such an interval isn't 0
 pub divisor_not_zero : (j : Interval) (y : ℤ) → excludes_zero j ≡ true → Holds j y → int_eq y (pos 0) ≡ false
@@ -105,7 +127,7 @@ within-quotient i j k l s = within-at_ends int_div i j k l (quotient-holds k l s
 
 pub within-negation : (i k : Interval) → IsWithin i k → IsWithin (negated i) (negated k)
 within-negation Never k h = tt
-within-negation (Range a b) k h = (negation-holds k b h.1, negation-holds k a h.0)
+within-negation (Range a b) k h = (negated-least a b).least (negated k) (negation-holds k a h.0) (negation-holds k b h.1)
 
 apart : (c d e f : ℤ) → OnOneSide c d → c ≤ℤ e → e ≤ℤ d → c ≤ℤ f → f ≤ℤ d → excludes_zero (Range e f) ≡ true
 apart c d e f h p q r s = grind (arith, ints)
@@ -138,10 +160,12 @@ proper-at_ends f (Range a b) (Range c d) = proper (f a c) (f a d) (f b c) (f b d
     proper : (p q r s : ℤ) → IsProper (hull p q r s)
     proper p q r s = omega (arith, ints, clamps)
 
-pub proper-negated : (i : Interval) → IsProper i → IsProper (negated i)
-proper-negated Never h = tt
-proper-negated (Range a b) h = omega (arith, ints, h)
+pub proper-negated : (i : Interval) → IsProper (negated i)
+proper-negated Never = tt
+proper-negated (Range a b) = omega (arith, ints, clamps)
 
 pub ruleset interval_laws = (sum-holds, difference-holds, product-holds, quotient-holds, negation-holds, hull-least, within-holds, within-refl, within-trans)
+
+pub ruleset negation_laws = (negated-least, negated-ends)
 
 pub ruleset narrower_laws = (within-sum, within-difference, within-product, within-quotient, within-excludes_zero, within-negation, within-in_range)

@@ -1,8 +1,8 @@
-use Rattle.std.proofs.Common.{◌≡◌, arith, refl, ap, ◌∙◌, sym, ℤ, pos, negsuc, ◌≤ℤ◌, ◌<ℤ◌, neg_ℤ, Bool, true, false, cond, ◌&&◌, int_lt, Option, Some, None}
+use Rattle.std.proofs.Common.{◌≡◌, arith, refl, ap, ◌∙◌, sym, ℤ, pos, negsuc, ◌≤ℤ◌, ◌<ℤ◌, neg_ℤ, ◌-ℤ◌, Bool, true, false, cond, ◌&&◌, int_lt, Option, Some, None}
 use Rattle.std.specs.Int.{int_min, int_max, saturate_signed, w128, cast_signed, cast_unsigned}
 use Rattle.std.specs.Int.RustNames.{FitsSigned}
 use Rattle.std.proofs.lemmas.Int.{ints, clamps, to_z-of_z}
-use Rattle.cal_value.specs.Interval.{limit, cut, hull, cut_ends, is_number, meet_of, Holds, IsProper, IsWithin, IsMeet}
+use Rattle.cal_value.specs.Interval.{limit, cut, hull, at_ends, negated, cut_ends, is_number, meet_of, Holds, IsProper, IsWithin, IsMeet}
 use Rattle.cal_value.specs.Types.{number_type, integer_type}
 use Rattle.cal_value.specs.declared.kind.SqlType.{SqlType}
 use Rattle.cal_value.specs.declared.interval.Interval.{Interval}
@@ -44,6 +44,16 @@ pub is_number-cut : (z : ℤ) → is_number (cut z) ≡ is_number z
 is_number-cut z = grind (arith, ints, clamps)
 
 pub ruleset cut_rules = (cut-saturate)
+
+-- 0 minus what an interval holds
+pub difference-negated : (i : Interval) → at_ends ◌-ℤ◌ (Range (pos 0) (pos 0)) i ≡ negated i
+difference-negated Never = refl
+difference-negated (Range lo hi) =
+    let p : int_min (int_min (pos 0 -ℤ lo) (pos 0 -ℤ hi)) (int_min (pos 0 -ℤ lo) (pos 0 -ℤ hi)) ≡ int_min (pos 0 -ℤ lo) (pos 0 -ℤ hi) = omega (arith, ints, clamps) in
+    let q : int_max (int_max (pos 0 -ℤ lo) (pos 0 -ℤ hi)) (int_max (pos 0 -ℤ lo) (pos 0 -ℤ hi)) ≡ int_max (pos 0 -ℤ lo) (pos 0 -ℤ hi) = omega (arith, ints, clamps) in
+    ap (λ z. Range z (int_max (int_max (pos 0 -ℤ lo) (pos 0 -ℤ hi)) (int_max (pos 0 -ℤ lo) (pos 0 -ℤ hi)))) p ∙ ap (Range (int_min (pos 0 -ℤ lo) (pos 0 -ℤ hi))) q
+
+pub ruleset negation_rules = (difference-negated)
 
 -- a number that goes to the bits of an `i128` and is read again, as a call passes it
 abbrev pub read : ℤ → ℤ

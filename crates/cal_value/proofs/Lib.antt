@@ -1,14 +1,9 @@
 pub mod BagLemmas
 pub mod Corners
-pub mod SumLemmas
 pub mod IntervalLaws
 pub mod IntervalLemmas
 pub mod OrderLemmas
 pub mod TypeLaws
 pub mod TypeLemmas
 pub mod LoopLemmas
-pub mod AggregateFolds
-pub mod AggregateLaws
-pub mod AggregateLemmas
-pub mod AggregateTyped
 pub mod TextLemmas

@@ -5,7 +5,8 @@ use Rattle.cal_value.specs.declared.kind.SqlType.{SqlType}
 use Rattle.cal_value.specs.declared.value.Value.{Value}
 use Rattle.cal_value.specs.declared.value.Value.TheVariants.{Null, Bool as BoolValue, Int, Text}
 use Rattle.cal_value.specs.Interval.{IsWithin, meet_of, is_in_range}
-use Rattle.cal_value.specs.Types.{IsOfType, HasTypes, IsAtMostAsWide, AreAtMostAsWide, IsProperType, StillTyped, met_type, number_type, integer_type}
+use Rattle.cal_value.specs.Narrower.{StillTyped}
+use Rattle.cal_value.specs.Types.{IsOfType, HasTypes, IsAtMostAsWide, AreAtMostAsWide, IsProperType, met_type, number_type, integer_type}
 use Rattle.cal_value.proofs.IntervalLaws.{within-holds, within-refl, within-trans, within-in_range}
 use Rattle.cal_value.proofs.IntervalLemmas.{meet_of-holds, meet_of-IsMeet}
 

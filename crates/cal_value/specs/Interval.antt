@@ -1,12 +1,13 @@
 -- Intervals of whole numbers, and arithmetic on their ends.
-use Rattle.std.specs.Prelude.{ℕ, ℤ, pos, neg_ℤ, ◌-ℤ◌, ◌≤ℤ◌, Bool, true, ◌&&◌, ◌||◌, int_lt, if◌then◌else◌, ⊤}
+use Rattle.std.specs.Prelude.{ℕ, ℤ, pos, neg_ℤ, nat_abs, ◌-ℤ◌, ◌≤ℤ◌, Bool, true, ◌&&◌, ◌||◌, int_lt, if◌then◌else◌, ⊤}
 use Rattle.std.specs.Int.{int_min, int_max}
 use Rattle.cal_value.specs.declared.interval.Interval.{Interval}
 use Rattle.cal_value.specs.declared.interval.Interval.TheVariants.{Never, Range}
+use Rattle.cal_value.specs.declared.limits.TheConstants.{NUMBER_LIMIT}
 
 -- 10^38: a number of SQL is smaller in size
 abbrev pub limit : ℕ
-limit = 100_000_000_000_000_000_000_000_000_000_000_000_000
+limit = nat_abs NUMBER_LIMIT
 
 -- the number is in the interval
 abbrev pub Holds : Interval → ℤ → Type 0
@@ -36,6 +37,12 @@ abbrev pub excludes_zero : Interval → Bool
 excludes_zero Never = true
 excludes_zero (Range lo hi) = (int_lt (pos 0) lo && int_lt (pos 0) hi) || (int_lt lo (pos 0) && int_lt hi (pos 0))
 
+-- it holds the two, and is within each interval that holds them
+pub record IsLeastOfTwo (p q : ℤ) (i : Interval) : Type 0 where
+  pub first : Holds i p
+  pub second : Holds i q
+  pub least : (k : Interval) → Holds k p → Holds k q → IsWithin i k
+
 -- it holds the four, and is within each interval that holds them
 pub record IsLeastOfFour (p q r s : ℤ) (i : Interval) : Type 0 where
   pub first : Holds i p
@@ -58,9 +65,10 @@ at_ends f Never j = Never
 at_ends f (Range a b) Never = Never
 at_ends f (Range a b) (Range c d) = hull (f a c) (f a d) (f b c) (f b d)
 
+-- the least interval that holds the negations of both ends
 abbrev pub negated : Interval → Interval
 negated Never = Never
-negated (Range lo hi) = Range (pos 0 -ℤ hi) (pos 0 -ℤ lo)
+negated (Range lo hi) = Range (int_min (pos 0 -ℤ lo) (pos 0 -ℤ hi)) (int_max (pos 0 -ℤ lo) (pos 0 -ℤ hi))
 
 -- what both hold
 abbrev pub meet_of : Interval → Interval → Interval

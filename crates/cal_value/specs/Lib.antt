@@ -1,8 +1,9 @@
-pub mod Aggregate
 pub mod Equal
+pub mod EqualLaws
 pub mod Held
 pub mod Interval
 pub mod Logic
+pub mod Narrower
 pub mod Order
 pub mod Text
 pub mod Types

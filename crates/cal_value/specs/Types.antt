@@ -1,5 +1,5 @@
 -- What a type holds, and which of two types is the narrower one.
-use Rattle.std.specs.Prelude.{◌≡◌, pos, Bool, true, false, ◌&&◌, Option, Some, None, List, if◌then◌else◌, ⊤}
+use Rattle.std.specs.Prelude.{◌≡◌, pos, Bool, true, false, ◌&&◌, Option, Some, None, List, if◌then◌else◌}
 use Rattle.std.specs.List.{AllZip}
 use Rattle.cal_value.specs.declared.interval.Interval.{Interval}
 use Rattle.cal_value.specs.declared.interval.Interval.TheVariants.{Range}
@@ -63,12 +63,6 @@ pub record IsAtMostAsWide (s t : SqlType) : Type 0 where
 -- so many types, each at most as wide as the one in its place
 abbrev pub AreAtMostAsWide : List SqlType → List SqlType → Type 0
 AreAtMostAsWide types others = AllZip IsAtMostAsWide types others
-
--- where the second is a type, the first is one that is at most as wide
-abbrev pub StillTyped : Option SqlType → Option SqlType → Type 0
-StillTyped o None = ⊤
-StillTyped None (Some t) = ⊥
-StillTyped (Some s) (Some t) = IsAtMostAsWide s t
 
 -- what both types hold, of two types of one kind
 abbrev pub met_type : SqlType → SqlType → SqlType

@@ -12,7 +12,8 @@ pub enum Interval {
     Range { lo: i128, hi: i128 },
 }
 
-pub(crate) fn cut_at_limit(z: i128) -> i128
+/// The number of -10^38 .. 10^38 that is nearest.
+pub fn cut_at_limit(z: i128) -> i128
     ensures { result ≡ cut z }
 {
     z.clamp(-NUMBER_LIMIT, NUMBER_LIMIT)
@@ -53,8 +54,9 @@ fn cut_difference(a: i128, b: i128) -> i128
     cut_at_limit(a.saturating_sub(b))
 }
 
+/// The product, cut at 10^38.
 #[tactic(auto, using(crate::proofs::IntervalLemmas::cut_rules))]
-pub(crate) fn cut_product(a: i128, b: i128) -> i128
+pub fn cut_product(a: i128, b: i128) -> i128
     ensures { result ≡ cut (a *ℤ b) }
 {
     cut_at_limit(a.saturating_mul(b))
@@ -228,16 +230,11 @@ impl Interval {
         }
     }
 
-    /// The interval of the negated numbers, cut at 10^38.
+    /// The least interval that holds the negations of the ends, cut at 10^38. `Never` of `Never`.
+    #[tactic(auto, using(crate::proofs::IntervalLemmas::negation_rules))]
     pub fn negation(self) -> Interval
         ensures { result ≡ cut_ends (negated self) }
     {
-        match self {
-            Interval::Range { lo, hi } => Interval::Range {
-                lo: cut_difference(0, hi),
-                hi: cut_difference(0, lo),
-            },
-            Interval::Never => Interval::Never,
-        }
+        Interval::Range { lo: 0, hi: 0 }.difference(self)
     }
 }

@@ -1,22 +1,18 @@
 //! Laws of the definitions, each as the contract of a function that does nothing.
-ghost use Rattle.std.specs.Prelude.{◌≡◌, ℕ, ℤ, pos, ◌+ℤ◌, ◌-ℤ◌, ◌*ℤ◌, ◌≤◌, int_div, IsTrue, ◌↔◌, ◌++◌, Some, List as ListOf, map, count_by, fold, not};
+ghost use Rattle.std.specs.Prelude.{◌≡◌, ℤ, pos, ◌+ℤ◌, ◌-ℤ◌, ◌*ℤ◌, ◌≤ℤ◌, int_div, IsTrue, ◌↔◌};
 ghost use Rattle.std.specs.declared.cmp.Ordering.TheVariants.{Equal};
 ghost use Rattle.std.specs.Cmp.{IsTotalOrder};
-ghost use Rattle.std.specs.List.{flat_map};
 ghost use Rattle.std.specs.List.Sorted.{IsPermutation};
 ghost use Rattle.cal_value.specs.declared.value.Value.{Value as ValueOf};
-ghost use Rattle.cal_value.specs.declared.value.Value.TheVariants.{Int};
-ghost use Rattle.cal_value.specs.Aggregate.{aggregated, combined, rolled, agg_type, numbers, sum_of};
-ghost use Rattle.cal_value.specs.Interval.{Holds, IsProper, IsWithin, HoldsResults, IsLeastOfFour, hull, at_ends, negated, meet_of, excludes_zero, is_in_range};
-ghost use Rattle.cal_value.specs.Logic.{is_null};
+ghost use Rattle.cal_value.specs.declared.interval.Interval.TheVariants.{Range};
+ghost use Rattle.cal_value.specs.Interval.{Holds, IsProper, IsWithin, HoldsResults, IsLeastOfTwo, IsLeastOfFour, hull, at_ends, negated, meet_of, excludes_zero, is_in_range};
 ghost use Rattle.cal_value.specs.Logic as logic;
 ghost use Rattle.cal_value.specs.Order.{value_cmp, key_cmp, row_cmp, SameBag};
-ghost use Rattle.cal_value.specs.Types.{IsOfType, HasTypes, IsAtMostAsWide, AreAtMostAsWide, IsProperType, StillTyped, met_type};
+ghost use Rattle.cal_value.specs.Types.{IsOfType, HasTypes, IsAtMostAsWide, AreAtMostAsWide, IsProperType, met_type};
 
 use crate::interval::Interval;
 use crate::kind::SqlType;
 use crate::list::List;
-use crate::operator::Agg;
 use crate::order::{Collation, KeyOrder};
 use crate::value::{Row, Value};
 
@@ -72,6 +68,14 @@ pub fn least_interval_law(p: i128, q: i128, r: i128, s: i128)
     ensures { IsLeastOfFour p q r s (hull p q r s) }
 {}
 
+/// The interval of a negation is the least that holds the negations of both ends; where the ends stand in order, it goes
+/// from that of the upper one to that of the lower one.
+#[tactic(auto, using(crate::proofs::IntervalLaws::negation_laws))]
+pub fn negation_law(lo: i128, hi: i128)
+    ensures least { IsLeastOfTwo (pos 0 -ℤ lo) (pos 0 -ℤ hi) (negated (Range lo hi)) }
+    ensures ends { lo ≤ℤ hi → negated (Range lo hi) ≡ Range (pos 0 -ℤ hi) (pos 0 -ℤ lo) }
+{}
+
 /// What is within an interval holds no other numbers.
 #[tactic(auto, using(crate::proofs::IntervalLaws::interval_laws))]
 pub fn within_law(i: Interval, j: Interval, k: Interval)
@@ -94,13 +98,13 @@ pub fn narrower_operands_law(i: Interval, j: Interval, k: Interval, l: Interval)
     ensures range { IsTrue (is_in_range k) → IsTrue (is_in_range i) }
 {}
 
-/// The ends of what arithmetic and the meet give stand in order; those of a negation, where the operand's do.
+/// The ends of what arithmetic and the meet give stand in order.
 pub fn proper_ends_law(i: Interval, j: Interval)
     ensures sum { IsProper (at_ends ◌+ℤ◌ i j) }
     ensures difference { IsProper (at_ends ◌-ℤ◌ i j) }
     ensures product { IsProper (at_ends ◌*ℤ◌ i j) }
     ensures quotient { IsProper (at_ends int_div i j) }
-    ensures negation { IsProper i → IsProper (negated i) }
+    ensures negation { IsProper (negated i) }
     ensures meet { IsProper (meet_of i j) }
 {}
 
@@ -136,47 +140,4 @@ pub fn type_meet_law(value: &Value, s: SqlType, t: SqlType)
 pub fn width_law(s: SqlType, t: SqlType, u: SqlType)
     ensures itself { IsProperType s → IsAtMostAsWide s s }
     ensures further { IsAtMostAsWide s t → IsAtMostAsWide t u → IsAtMostAsWide s u }
-{}
-
-/// Counts and sums in other words: the number of values that aren't NULL, and the sum of the numbers.
-#[tactic(auto, using(crate::proofs::AggregateFolds::aggregate_laws))]
-pub fn counts_and_sums_law(values: &List<Value>)
-    ensures count { aggregated Agg.Count values.now ≡ Int (pos (count_by (λ v. not (is_null v)) values.now)) }
-    ensures sum { aggregated Agg.Sum values.now ≡ sum_of (numbers values.now) }
-    ensures sum0 { aggregated Agg.Sum0 values.now ≡ Int (fold ◌+ℤ◌ (pos 0) (numbers values.now)) }
-{
-    let _ = values;
-}
-
-/// An aggregate doesn't ask in which order the values stand.
-#[tactic(auto, using(crate::proofs::AggregateFolds::aggregate_laws))]
-pub fn aggregate_order_law(agg: Agg, values: &List<Value>, others: &List<Value>)
-    requires { IsPermutation values.now others.now }
-    ensures { aggregated agg values.now ≡ aggregated agg others.now }
-{
-    let _ = values;
-    let _ = others;
-}
-
-/// The aggregate of a whole from those of its parts: COUNT by SUM0, each other one by itself.
-#[tactic(auto, using(crate::proofs::AggregateFolds::aggregate_laws))]
-pub fn roll_up_law(agg: Agg, groups: &List<List<Value>>)
-    ensures two { (vs ws : ListOf ValueOf) → aggregated agg (vs ++ ws) ≡ combined (rolled agg) (aggregated agg vs) (aggregated agg ws) }
-    ensures any { aggregated agg (flat_map (λ vs. vs) groups.now) ≡ aggregated (rolled agg) (map (aggregated agg) groups.now) }
-{
-    let _ = groups;
-}
-
-/// A narrower argument and a lesser bound leave an aggregate well formed, with a type at most as wide.
-pub fn narrower_argument_law(agg: Agg, s: SqlType, t: SqlType, fewer: u128, bound: u128)
-    requires argument { IsAtMostAsWide s t }
-    requires rows { fewer ≤ bound }
-    ensures { StillTyped (agg_type agg s fewer) (agg_type agg t bound) }
-{}
-
-/// The ends of an aggregate's type stand in order, where those of its argument do.
-pub fn proper_aggregate_law(agg: Agg, argument: SqlType, bound: u128, t: SqlType)
-    requires argument { IsProperType argument }
-    requires typed { agg_type agg argument bound ≡ Some t }
-    ensures { IsProperType t }
 {}

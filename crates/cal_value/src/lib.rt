@@ -1,7 +1,6 @@
-//! The values of the query framework: texts, rows, types, their order and their logic.
+//! The values of the query framework: texts, rows, types, intervals, their order and their logic.
 #![tactic(auto)]
 
-mod aggregates;
 mod bag;
 mod interval;
 mod kind;
@@ -16,9 +15,8 @@ mod steps;
 mod text;
 mod value;
 
-pub use aggregates::aggregate;
 pub use bag::{is_in_order, same_bag};
-pub use interval::Interval;
+pub use interval::{Interval, cut_at_limit, cut_product};
 pub use kind::{Kind, SqlType, has_types};
 pub use limits::{
     BRACKET_LIMIT, BUDGET_LIMIT, COLUMN_LIMIT, FILE_LIMIT, FILES_LIMIT, MODEL_LIMIT, NAME_LIMIT,

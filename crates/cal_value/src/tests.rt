@@ -1,9 +1,10 @@
 ghost use Rattle.std.specs.Prelude.{◌≡◌, IsTrue};
 
 use crate::{
-    Agg, Duplicate, Interval, KeyOrder, Kind, List, NUMBER_LIMIT, NoMemory, Row, SqlText, SqlType,
-    Steps, TextFault, Value, aggregate, and3, compare, compare_rows, copy_row, has_types,
-    is_in_order, not3, or3, same_bag,
+    Duplicate, Interval, KeyOrder, Kind, List, NUMBER_LIMIT, NoMemory, Row, SqlText, SqlType,
+    Steps, TEXT_LIMIT, TextFault, Value, and3, characters, compare, compare_rows, copy_row,
+    cut_at_limit, cut_product, has_types, is_in_order, not3, or3, push_characters, same_bag,
+    value_at, values_at,
 };
 use std::alloc::Global;
 use std::cmp::Ordering;
@@ -38,7 +39,7 @@ fn list_of<T: Drop, const N: usize>(alloc: Global, items: [T; N]) -> Result<List
 }
 
 #[test]
-fn a_text_has_at_most_4000_characters(rt: HostRuntime) -> Result<(), Fail> {
+fn a_text_has_a_greatest_length(rt: HostRuntime) -> Result<(), Fail> {
     let text = SqlText::of(rt.alloc(), "aß\u{1F600}")?;
     assert_eq!(rt; text.as_slice(), ['a', 'ß', '\u{1F600}'].as_slice());
     assert!(rt; text.copy(rt.alloc())? == text);
@@ -49,8 +50,36 @@ fn a_text_has_at_most_4000_characters(rt: HostRuntime) -> Result<(), Fail> {
     }
     match SqlText::of(rt.alloc(), longer.as_str()) {
         Ok(_) => assert!(rt; false),
-        Err(fault) => assert_eq!(rt; fault, TextFault::TooLong { limit: 4000 }),
+        Err(fault) => assert_eq!(rt; fault, TextFault::TooLong { limit: TEXT_LIMIT }),
     }
+    Ok(())
+}
+
+#[test]
+fn characters_go_into_strings_and_back(rt: HostRuntime) -> Result<(), Fail> {
+    let alloc = rt.alloc();
+    let letters = characters(alloc, "aß\u{1F600}")?;
+    assert_eq!(rt; letters.as_slice(), ['a', 'ß', '\u{1F600}'].as_slice());
+    let mut text = String::new(alloc);
+    text.push('x')?;
+    push_characters(&mut text, letters.as_slice())?;
+    assert_eq!(rt; text.as_str(), "xaß\u{1F600}");
+    let known = SqlText::from_characters(letters);
+    assert!(rt; known == SqlText::of(alloc, "aß\u{1F600}")?);
+    Ok(())
+}
+
+#[test]
+fn values_are_copied_out_of_rows(rt: HostRuntime) -> Result<(), Fail> {
+    let alloc = rt.alloc();
+    let row = list_of(alloc, [Value::Int(7), word(alloc, "x")?])?;
+    assert!(rt; value_at(alloc, &row, 1)? == word(alloc, "x")?);
+    assert!(rt; value_at(alloc, &row, 2)? == Value::Null);
+    let wanted = list_of(alloc, [word(alloc, "x")?, Value::Null, Value::Int(7)])?;
+    assert!(rt; values_at(alloc, &row, [1, 5, 0].as_slice())? == wanted);
+    assert!(rt; copy_row(alloc, &row)? == row);
+    assert!(rt; Some(word(alloc, "x")?).copy(alloc)? == Some(word(alloc, "x")?));
+    assert_eq!(rt; Some(3u32).copy(alloc)?, Some(3));
     Ok(())
 }
 
@@ -117,7 +146,6 @@ fn rows_stand_in_order_and_in_bags(rt: HostRuntime) -> Result<(), Fail> {
     assert_eq!(rt; compare_rows(&c, &d, &keys), Ordering::Less);
     assert_eq!(rt; compare_rows(&c, &b, &keys), Ordering::Greater);
     let again = copy_row(alloc, &d)?;
-    assert!(rt; again == d);
     let rows = list_of(alloc, [a, b, c, d, again])?;
     assert!(rt; is_in_order(&rows, &keys.copy(alloc)?));
     let mut turned = rows.copy(alloc)?;
@@ -234,6 +262,8 @@ fn intervals_end_at_the_limit(rt: HostRuntime) {
         range(-NUMBER_LIMIT, NUMBER_LIMIT)
     );
     assert!(rt; !BIGINT.product(BIGINT).product(BIGINT).is_in_range());
+    assert_eq!(rt; cut_at_limit(i128::MIN), -NUMBER_LIMIT);
+    assert_eq!(rt; cut_product(NUMBER_LIMIT, -1), -NUMBER_LIMIT);
     let widest = range(1 - NUMBER_LIMIT, NUMBER_LIMIT - 1);
     assert!(rt; widest.is_in_range());
     assert_eq!(rt;
@@ -323,87 +353,8 @@ fn types_are_true_of_values(rt: HostRuntime) -> Result<(), Fail> {
         types.copy(alloc)?.get(1).copied(),
         Some(SqlType::boolean(true))
     );
-    assert_eq!(rt; number.kind, Kind::Integer);
+    assert!(rt; number.kind.is(Kind::Integer) && !number.kind.is(Kind::Text));
     Ok(())
-}
-
-// The aggregate, where the values have the type and it has one over so many of them.
-fn aggregate_of(
-    alloc: Global,
-    agg: Agg,
-    values: &List<Value>,
-    t: SqlType,
-) -> Result<Option<Value>, NoMemory> {
-    if !t.holds_all(values) || agg.result_type(t, values.len() as u128).is_none() {
-        return Ok(None);
-    }
-    Ok(Some(aggregate(alloc, agg, values)?))
-}
-
-#[test]
-fn aggregates_skip_null(rt: HostRuntime) -> Result<(), Fail> {
-    let alloc = rt.alloc();
-    let number = SqlType::integer(true, INTEGER);
-    let some = list_of(
-        alloc,
-        [
-            Value::Null,
-            Value::Int(3),
-            Value::Int(-5),
-            Value::Null,
-            Value::Int(3),
-        ],
-    )?;
-    let nulls = list_of(alloc, [Value::Null, Value::Null])?;
-    let table = [
-        (Agg::Count, Value::Int(3), Value::Int(0)),
-        (Agg::Sum, Value::Int(1), Value::Null),
-        (Agg::Sum0, Value::Int(1), Value::Int(0)),
-        (Agg::Min, Value::Int(-5), Value::Null),
-        (Agg::Max, Value::Int(3), Value::Null),
-    ];
-    let none = List::new(alloc);
-    for (agg, of_some, of_none) in &table {
-        assert!(rt; aggregate_of(alloc, *agg, &some, number)?.as_ref() == Some(of_some));
-        assert!(rt; aggregate_of(alloc, *agg, &nulls, number)?.as_ref() == Some(of_none));
-        assert!(rt; aggregate_of(alloc, *agg, &none, number)?.as_ref() == Some(of_none));
-        assert!(rt; agg.start() == *of_none);
-    }
-    let words = list_of(alloc, [word(alloc, "b")?, Value::Null, word(alloc, "ab")?])?;
-    let text = SqlType::text(true);
-    let least = aggregate_of(alloc, Agg::Min, &words, text)?;
-    assert!(rt; least == Some(word(alloc, "ab")?));
-    assert!(rt; aggregate_of(alloc, Agg::Sum, &words, text)?.is_none());
-    Ok(())
-}
-
-#[test]
-fn aggregates_have_their_types(rt: HostRuntime) {
-    let all = 100_000_000_000_000_000_000_000_000_000_000_000_000;
-    let table = [
-        (Agg::Count, range(0, 1), 5, Some((false, range(0, 5)))),
-        (Agg::Count, range(0, 1), all, None),
-        (Agg::Sum, range(-2, 3), 4, Some((true, range(-8, 12)))),
-        (Agg::Sum, range(2, 3), 4, Some((true, range(2, 12)))),
-        (Agg::Sum, range(2, 3), 0, Some((true, range(2, 3)))),
-        (Agg::Sum, range(1, 1), all, None),
-        (Agg::Sum, range(0, 0), all, Some((true, range(0, 0)))),
-        (Agg::Sum, Interval::Never, 4, Some((true, Interval::Never))),
-        (Agg::Sum0, range(2, 3), 4, Some((false, range(0, 12)))),
-        (Agg::Sum0, Interval::Never, 4, Some((false, range(0, 0)))),
-        (Agg::Min, range(2, 3), 4, Some((true, range(2, 3)))),
-        (Agg::Max, range(2, 3), 4, Some((true, range(2, 3)))),
-    ];
-    for (agg, interval, bound, wanted) in table {
-        let argument = SqlType::integer(false, interval);
-        let wanted = wanted.map(|(nullable, interval)| SqlType::integer(nullable, interval));
-        assert_eq!(rt; agg.result_type(argument, bound), wanted);
-    }
-    assert_eq!(rt; Agg::Sum.result_type(SqlType::text(false), 1), None);
-    assert_eq!(rt;
-        Agg::Max.result_type(SqlType::text(false), 1),
-        Some(SqlType::text(true))
-    );
 }
 
 fn three_steps<L: Ledger>(blank: Blank) -> bool

@@ -60,7 +60,8 @@ impl Value {
 
 impl PartialEq for Value {
     ghost use Rattle.std.specs.Cmp.{partial_equiv_from_equiv};
-    ghost use Rattle.cal_value.specs.Equal.{value_eq, value_eq_equiv};
+    ghost use Rattle.cal_value.specs.Equal.{value_eq};
+    ghost use Rattle.cal_value.specs.EqualLaws.{value_eq_equiv};
 
     ghost eq = { value_eq };
 
@@ -78,7 +79,7 @@ impl PartialEq for Value {
 }
 
 impl Eq for Value {
-    ghost use Rattle.cal_value.specs.Equal.{value_eq_equiv};
+    ghost use Rattle.cal_value.specs.EqualLaws.{value_eq_equiv};
 
     ghost laws = { value_eq_equiv };
 }

@@ -14,7 +14,8 @@ use Rattle.csv.specs.declared.parser.Action.{Action}
 use Rattle.csv.specs.declared.parser.Action.TheVariants.{Skip, Copy, EndField, EndRecord}
 use Rattle.csv.specs.declared.parser.State.{State}
 use Rattle.csv.specs.declared.parser.State.TheVariants.{StartRecord}
-use Rattle.cal_value.specs.Equal.{row_eq, row_eq-Decides}
+use Rattle.cal_value.specs.Equal.{row_eq}
+use Rattle.cal_value.specs.EqualLaws.{row_eq-Decides}
 use Rattle.cal_value.specs.Interval.{Holds}
 use Rattle.cal_value.specs.Types.{HasTypes, IsOfType, text_type}
 use Rattle.cal_value.specs.declared.interval.Interval.{Interval}

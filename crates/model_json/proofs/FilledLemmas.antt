@@ -11,7 +11,8 @@ use Rattle.std.proofs.lemmas.List.Elements.{All-nil, All-push, All-head, All-tai
 use Rattle.std.proofs.lemmas.List.Quantifiers.{all_pairs_push}
 use Rattle.serde_json.specs.Data.{Data, null, boolean, number, string, array, object}
 use Rattle.serde_json.specs.Find.{as_i64}
-use Rattle.cal_value.specs.Equal.{row_eq, row_eq-Decides}
+use Rattle.cal_value.specs.Equal.{row_eq}
+use Rattle.cal_value.specs.EqualLaws.{row_eq-Decides}
 use Rattle.cal_value.specs.Interval.{Holds}
 use Rattle.cal_value.specs.Order.{column_of as value_in}
 use Rattle.cal_value.specs.Types.{HasTypes, IsOfType}

@@ -1,0 +1,3 @@
+pub mod Aggregate
+pub mod Combine
+pub mod ResultType
