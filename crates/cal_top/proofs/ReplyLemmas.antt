@@ -13,9 +13,9 @@ use Rattle.sql_meaning.specs.Refused.{is_plain, refusal_of}
 use Rattle.sql_parser.specs.Answers.{IsWithinLimits}
 use Rattle.sql_parser.specs.Grammar.{Spells}
 use Rattle.sql_text.specs.Tokens.{HasTokens}
-use Rattle.sql_text.specs.declared.select.Select.{Select}
-use Rattle.sql_text.specs.declared.statement.Statement.{Statement}
-use Rattle.sql_text.specs.declared.statement.Statement.TheVariants.{Select as SelectOf}
+use Rattle.sql_tree.specs.declared.select.Select.{Select}
+use Rattle.sql_tree.specs.declared.statement.Statement.{Statement}
+use Rattle.sql_tree.specs.declared.statement.Statement.TheVariants.{Select as SelectOf}
 use Rattle.sql_text.specs.declared.token.Token.{Token}
 use Rattle.sql_validator.specs.Checked.{IsChecked}
 use Rattle.sql_validator.specs.declared.checked.CheckedSelect.{CheckedSelect}

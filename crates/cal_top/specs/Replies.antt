@@ -9,9 +9,9 @@ use Rattle.session_lane.specs.declared.reply.Reply.TheVariants.{Rows, Refused}
 use Rattle.sql_meaning.specs.Direct.{direct}
 use Rattle.sql_meaning.specs.Names.{output_names}
 use Rattle.sql_meaning.specs.Scope.{scope_of}
-use Rattle.sql_text.specs.declared.select.Select.{Select}
-use Rattle.sql_text.specs.declared.statement.Statement.{Statement}
-use Rattle.sql_text.specs.declared.statement.Statement.TheVariants.{Select as SelectOf}
+use Rattle.sql_tree.specs.declared.select.Select.{Select}
+use Rattle.sql_tree.specs.declared.statement.Statement.{Statement}
+use Rattle.sql_tree.specs.declared.statement.Statement.TheVariants.{Select as SelectOf}
 use Rattle.cal_top.specs.Statements.{IsStatement, IsNoStatement, refusal_in}
 
 -- The statement is a SELECT without a cause of refusal; the names are those of its columns, and the rows its direct meaning.

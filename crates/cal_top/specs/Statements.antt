@@ -9,9 +9,9 @@ use Rattle.sql_parser.specs.Grammar.{Spells}
 use Rattle.sql_parser.specs.declared.fault.ParseFault.{ParseFault}
 use Rattle.sql_parser.specs.declared.fault.ParseFault.TheVariants as parse
 use Rattle.sql_text.specs.Tokens.{HasTokens, StopsAt}
-use Rattle.sql_text.specs.declared.select.Select.{Select}
-use Rattle.sql_text.specs.declared.statement.Statement.{Statement}
-use Rattle.sql_text.specs.declared.statement.Statement.TheVariants.{Select as SelectOf, ExplainPlan, ExplainMemo, Insert, Refresh, CreateTile, DropTile, ChooseTiles}
+use Rattle.sql_tree.specs.declared.select.Select.{Select}
+use Rattle.sql_tree.specs.declared.statement.Statement.{Statement}
+use Rattle.sql_tree.specs.declared.statement.Statement.TheVariants.{Select as SelectOf, ExplainPlan, ExplainMemo, Insert, Refresh, CreateTile, DropTile, ChooseTiles}
 use Rattle.sql_text.specs.declared.token.Token.{Token}
 
 -- the text's tokens keep the limits and spell the statement

@@ -9,7 +9,7 @@ ghost use Rattle.sql_parser.specs.Answers.{IsWithinLimits};
 ghost use Rattle.sql_parser.specs.Grammar.{Spells};
 ghost use Rattle.session_lane.specs.declared.reply.Cause.TheVariants as causes;
 ghost use Rattle.session_lane.specs.declared.reply.Reply.TheVariants as replies;
-ghost use Rattle.sql_text.specs.declared.statement.Statement.TheVariants.{Select as SelectOf};
+ghost use Rattle.sql_tree.specs.declared.statement.Statement.TheVariants.{Select as SelectOf};
 ghost use Rattle.sql_validator.specs.Checked.{IsChecked};
 ghost use Rattle.cal_top.specs.Replies.{Answers, IsReplyTo};
 ghost use Rattle.cal_top.specs.Statements.{IsStatement, IsNoStatement, IsParseRefusal};
@@ -19,7 +19,8 @@ use cal_snapshot::Snapshot;
 use cal_value::{List, NoMemory};
 use session_lane::{Cause, Reply, answer_select};
 use sql_parser::{ParseFault, parse};
-use sql_text::{Select, Statement, Token, TokenFault, tokens};
+use sql_text::{Token, TokenFault, tokens};
+use sql_tree::{Select, Statement};
 use sql_validator::{CheckedSelect, is_plain, validate};
 use std::alloc::Global;
 

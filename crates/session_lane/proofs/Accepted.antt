@@ -6,8 +6,8 @@ use Rattle.std.proofs.lemmas.List.Folds.{find-append}
 use Rattle.std.proofs.lemmas.List.Elements.{All-cons}
 use Rattle.cal_schema.specs.declared.refusal.Refusal.TheVariants.{UnknownColumn, TypeClash, MayNotFit}
 use Rattle.cal_schema.specs.declared.schema.Schema.{Schema}
-use Rattle.sql_text.specs.declared.select.Select.{Select}
-use Rattle.sql_text.specs.declared.tree.Tree.{Tree}
+use Rattle.sql_tree.specs.declared.select.Select.{Select}
+use Rattle.sql_tree.specs.declared.tree.Tree.{Tree}
 use Rattle.sql_meaning.specs.declared.misfit.Misfit.{Misfit}
 use Rattle.sql_meaning.specs.Kinds.{kinded, not_boolean, clashes, condition_clashes}
 use Rattle.sql_meaning.specs.Refused.{item_trees, listed, trees_of, columns_in, is_unknown_column, unknown_table, unknown_column, lower, lowest, type_clash, nearer, nearest, may_not_fit, all_clashes, all_misfits, refusal_of, column_name}

@@ -15,12 +15,12 @@ use Rattle.cal_schema.specs.declared.database.Db.{Db}
 use Rattle.cal_schema.specs.declared.schema.Schema.{Schema}
 use Rattle.cal_schema.specs.declared.table.TableDef.{TableDef}
 use Rattle.cal_schema.specs.Fits.{AreFilledBy, types_of}
-use Rattle.sql_text.specs.declared.select.FromEntry.{FromEntry}
-use Rattle.sql_text.specs.declared.select.Item.{Item}
-use Rattle.sql_text.specs.declared.select.Items.{Items}
-use Rattle.sql_text.specs.declared.select.Items.TheVariants.{Star, Listed}
-use Rattle.sql_text.specs.declared.select.Select.{Select}
-use Rattle.sql_text.specs.declared.tree.Tree.{Tree}
+use Rattle.sql_tree.specs.declared.select.FromEntry.{FromEntry}
+use Rattle.sql_tree.specs.declared.select.Item.{Item}
+use Rattle.sql_tree.specs.declared.select.Items.{Items}
+use Rattle.sql_tree.specs.declared.select.Items.TheVariants.{Star, Listed}
+use Rattle.sql_tree.specs.declared.select.Select.{Select}
+use Rattle.sql_tree.specs.declared.tree.Tree.{Tree}
 use Rattle.sql_meaning.specs.Direct.{direct, bound, passes, item_values, shown}
 use Rattle.sql_meaning.specs.Refused.{item_trees, listed, refusal_of}
 use Rattle.sql_meaning.specs.Scope.{Header, single, columns_of, header_of, hidden_by, types_in}

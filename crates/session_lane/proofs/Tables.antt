@@ -12,9 +12,9 @@ use Rattle.cal_schema.specs.declared.database.Db.{Db}
 use Rattle.cal_schema.specs.declared.schema.Schema.{Schema}
 use Rattle.cal_schema.specs.declared.table.TableDef.{TableDef}
 use Rattle.cal_schema.specs.Fits.{AreFilledBy, IsFilledBy, types_of}
-use Rattle.sql_text.specs.declared.select.FromEntry.{FromEntry}
-use Rattle.sql_text.specs.declared.select.Select.{Select}
-use Rattle.sql_text.specs.declared.select.TableName.{TableName}
+use Rattle.sql_tree.specs.declared.select.FromEntry.{FromEntry}
+use Rattle.sql_tree.specs.declared.select.Select.{Select}
+use Rattle.sql_tree.specs.declared.select.TableName.{TableName}
 use Rattle.cal_schema.specs.Lookup.{is_named}
 use Rattle.cal_schema.proofs.NameLemmas.{position-below}
 use Rattle.sql_meaning.specs.Direct.{rows_of}

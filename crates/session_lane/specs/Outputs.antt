@@ -9,8 +9,8 @@ use Rattle.cal_schema.specs.declared.schema.Schema.{Schema}
 use Rattle.cal_schema.specs.declared.table.AdapterKind.{AdapterKind}
 use Rattle.cal_schema.specs.declared.table.AdapterKind.TheVariants.{Csv as CsvKind, Mem as MemKind}
 use Rattle.cal_value.specs.declared.value.Value.{Value}
-use Rattle.sql_text.specs.declared.select.Items.{Items}
-use Rattle.sql_text.specs.declared.select.Items.TheVariants.{Star, Listed}
+use Rattle.sql_tree.specs.declared.select.Items.{Items}
+use Rattle.sql_tree.specs.declared.select.Items.TheVariants.{Star, Listed}
 use Rattle.sql_meaning.specs.Scope.{Header}
 use Rattle.sql_meaning.specs.Value.{is_true}
 use Rattle.sql_to_rel.specs.Numbered.{numbered}

@@ -7,8 +7,8 @@ ghost use Rattle.session_lane.specs.Outputs.{outputs_of};
 use cal_expr::Expr;
 use cal_schema::ColumnDef;
 use cal_value::{List, NoMemory, SqlText};
-use sql_text::{Item, Items, Tree};
 use sql_to_rel::expression;
+use sql_tree::{Item, Items, Tree};
 use std::alloc::Global;
 
 /// The expression of WHERE.

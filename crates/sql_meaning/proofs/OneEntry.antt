@@ -4,8 +4,8 @@ use Rattle.std.specs.List.{flat_map}
 use Rattle.std.proofs.Common.{ap, ◌∙◌}
 use Rattle.cal_schema.specs.declared.database.Db.{Db}
 use Rattle.cal_schema.specs.declared.schema.Schema.{Schema}
-use Rattle.sql_text.specs.declared.select.FromEntry.{FromEntry}
-use Rattle.sql_text.specs.declared.select.Select.{Select}
+use Rattle.sql_tree.specs.declared.select.FromEntry.{FromEntry}
+use Rattle.sql_tree.specs.declared.select.Select.{Select}
 use Rattle.sql_meaning.specs.Direct.{direct, rows_of, bound, passes, item_values, loops, pairs}
 
 singles : {A : Type 0} (xs : List A) → flat_map (λ x. x ∷ []) xs ≡ xs

@@ -4,7 +4,7 @@ use Rattle.std.specs.Prelude.{position}
 use Rattle.cal_schema.specs.declared.column.ColumnDef.{ColumnDef}
 use Rattle.cal_schema.specs.Lookup.{is_same_name}
 use Rattle.cal_schema.proofs.NameLemmas.{position-below}
-use Rattle.sql_text.specs.declared.tree.ColumnName.{ColumnName}
+use Rattle.sql_tree.specs.declared.tree.ColumnName.{ColumnName}
 use Rattle.sql_meaning.specs.Scope.{single, place_of, types_in}
 
 same_or_none : (o : Option ℕ) → unwrap_or (option_map Some o) None ≡ o

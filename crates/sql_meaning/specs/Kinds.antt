@@ -7,9 +7,9 @@ use Rattle.cal_value.specs.declared.operator.Op.TheVariants.{Add, Subtract, Mult
 use Rattle.cal_value.specs.declared.value.Value.{Value}
 use Rattle.cal_value.specs.declared.value.Value.TheVariants.{Null, Bool as BoolValue, Int, Text}
 use Rattle.cal_value.specs.Types.{same_kind}
-use Rattle.sql_text.specs.declared.tree.Tree.{Tree}
-use Rattle.sql_text.specs.declared.tree.Tree.TheFolds.{fold-Tree}
-use Rattle.sql_text.specs.declared.tree.Tree.TheOpen.{Tree-F}
+use Rattle.sql_tree.specs.declared.tree.Tree.{Tree}
+use Rattle.sql_tree.specs.declared.tree.Tree.TheFolds.{fold-Tree}
+use Rattle.sql_tree.specs.declared.tree.Tree.TheOpen.{Tree-F}
 use Rattle.sql_meaning.specs.Scope.{Header, type_in}
 
 -- the kind of an expression, its own place, and the places in it where kinds don't go together

@@ -1,12 +1,12 @@
 -- The names of the columns of an answer.
 use Rattle.std.specs.Prelude.{ℕ, ◌+◌, List, [], ◌∷◌, ◌++◌, map, codes, decimal, unwrap_or}
 use Rattle.std.specs.List.{flat_map}
-use Rattle.sql_text.specs.declared.select.Item.{Item}
-use Rattle.sql_text.specs.declared.select.Items.{Items}
-use Rattle.sql_text.specs.declared.select.Items.TheVariants.{Star, Listed}
-use Rattle.sql_text.specs.declared.tree.Tree.{Tree}
-use Rattle.sql_text.specs.declared.tree.Tree.TheOpen.{Tree-F}
-use Rattle.sql_text.specs.declared.tree.Tree.TheViews.{out-Tree}
+use Rattle.sql_tree.specs.declared.select.Item.{Item}
+use Rattle.sql_tree.specs.declared.select.Items.{Items}
+use Rattle.sql_tree.specs.declared.select.Items.TheVariants.{Star, Listed}
+use Rattle.sql_tree.specs.declared.tree.Tree.{Tree}
+use Rattle.sql_tree.specs.declared.tree.Tree.TheOpen.{Tree-F}
+use Rattle.sql_tree.specs.declared.tree.Tree.TheViews.{out-Tree}
 use Rattle.sql_meaning.specs.Scope.{Header}
 use Rattle.sql_meaning.specs.Direct.{shown}
 

@@ -6,17 +6,17 @@ use Rattle.cal_schema.specs.declared.refusal.Refusal.{Refusal}
 use Rattle.cal_schema.specs.declared.refusal.Refusal.TheVariants.{UnknownTable, UnknownColumn, TypeClash, MayNotFit}
 use Rattle.cal_schema.specs.declared.refusal.WrittenName.{WrittenName}
 use Rattle.cal_schema.specs.declared.schema.Schema.{Schema}
-use Rattle.sql_text.specs.declared.select.FromEntry.{FromEntry}
-use Rattle.sql_text.specs.declared.select.How.{How}
-use Rattle.sql_text.specs.declared.select.How.TheVariants.{First, Cross, Inner, Left}
-use Rattle.sql_text.specs.declared.select.Items.{Items}
-use Rattle.sql_text.specs.declared.select.Items.TheVariants.{Star, Listed}
-use Rattle.sql_text.specs.declared.select.Select.{Select}
-use Rattle.sql_text.specs.declared.select.TableName.{TableName}
-use Rattle.sql_text.specs.declared.tree.ColumnName.{ColumnName}
-use Rattle.sql_text.specs.declared.tree.Tree.{Tree}
-use Rattle.sql_text.specs.declared.tree.Tree.TheFolds.{fold-Tree}
-use Rattle.sql_text.specs.declared.tree.Tree.TheOpen.{Tree-F}
+use Rattle.sql_tree.specs.declared.select.FromEntry.{FromEntry}
+use Rattle.sql_tree.specs.declared.select.How.{How}
+use Rattle.sql_tree.specs.declared.select.How.TheVariants.{First, Cross, Inner, Left}
+use Rattle.sql_tree.specs.declared.select.Items.{Items}
+use Rattle.sql_tree.specs.declared.select.Items.TheVariants.{Star, Listed}
+use Rattle.sql_tree.specs.declared.select.Select.{Select}
+use Rattle.sql_tree.specs.declared.select.TableName.{TableName}
+use Rattle.sql_tree.specs.declared.tree.ColumnName.{ColumnName}
+use Rattle.sql_tree.specs.declared.tree.Tree.{Tree}
+use Rattle.sql_tree.specs.declared.tree.Tree.TheFolds.{fold-Tree}
+use Rattle.sql_tree.specs.declared.tree.Tree.TheOpen.{Tree-F}
 use Rattle.sql_meaning.specs.declared.misfit.Misfit.{Misfit}
 use Rattle.sql_meaning.specs.Scope.{Header, number_of, scope_of, place_of}
 use Rattle.sql_meaning.specs.Kinds.{clashes, condition_clashes}

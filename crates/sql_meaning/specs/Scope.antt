@@ -5,14 +5,14 @@ use Rattle.cal_value.specs.declared.kind.SqlType.{SqlType}
 use Rattle.cal_schema.specs.declared.column.ColumnDef.{ColumnDef}
 use Rattle.cal_schema.specs.declared.schema.Schema.{Schema}
 use Rattle.cal_schema.specs.Lookup.{is_same_name, table_named}
-use Rattle.sql_text.specs.declared.select.Cond.{Cond}
-use Rattle.sql_text.specs.declared.select.Cond.TheVariants.{On, Using}
-use Rattle.sql_text.specs.declared.select.FromEntry.{FromEntry}
-use Rattle.sql_text.specs.declared.select.How.{How}
-use Rattle.sql_text.specs.declared.select.How.TheVariants.{First, Cross, Inner, Left}
-use Rattle.sql_text.specs.declared.select.Select.{Select}
-use Rattle.sql_text.specs.declared.select.TableName.{TableName}
-use Rattle.sql_text.specs.declared.tree.ColumnName.{ColumnName}
+use Rattle.sql_tree.specs.declared.select.Cond.{Cond}
+use Rattle.sql_tree.specs.declared.select.Cond.TheVariants.{On, Using}
+use Rattle.sql_tree.specs.declared.select.FromEntry.{FromEntry}
+use Rattle.sql_tree.specs.declared.select.How.{How}
+use Rattle.sql_tree.specs.declared.select.How.TheVariants.{First, Cross, Inner, Left}
+use Rattle.sql_tree.specs.declared.select.Select.{Select}
+use Rattle.sql_tree.specs.declared.select.TableName.{TableName}
+use Rattle.sql_tree.specs.declared.tree.ColumnName.{ColumnName}
 
 -- an entry of FROM as names see it; hidden are the columns that its own USING names
 pub record Header : Type 0 where

@@ -12,9 +12,9 @@ use Rattle.cal_value.specs.declared.value.Value.TheVariants.{Null, Bool as BoolV
 use Rattle.cal_value.specs.Interval.{excludes_zero, at_ends, negated, cut, is_in_range}
 use Rattle.cal_value.specs.Types.{boolean_type, is_integer}
 use Rattle.cal_expr.specs.Typing.{column_type, literal_type, negation_type, op_type, not_type, of_both}
-use Rattle.sql_text.specs.declared.tree.Tree.{Tree}
-use Rattle.sql_text.specs.declared.tree.Tree.TheFolds.{fold-Tree}
-use Rattle.sql_text.specs.declared.tree.Tree.TheOpen.{Tree-F}
+use Rattle.sql_tree.specs.declared.tree.Tree.{Tree}
+use Rattle.sql_tree.specs.declared.tree.Tree.TheFolds.{fold-Tree}
+use Rattle.sql_tree.specs.declared.tree.Tree.TheOpen.{Tree-F}
 use Rattle.sql_meaning.specs.declared.misfit.Misfit.{Misfit}
 use Rattle.sql_meaning.specs.Scope.{Header, type_in}
 

@@ -5,10 +5,10 @@ use Rattle.cal_value.specs.declared.value.Value.TheVariants.{Null, Bool as BoolV
 use Rattle.cal_value.specs.Logic.{not3, truth_of, value_of, is_null}
 use Rattle.cal_value.specs.Order.{column_of}
 use Rattle.cal_expr.specs.Meaning.{applied, negated}
-use Rattle.sql_text.specs.declared.tree.ColumnName.{ColumnName}
-use Rattle.sql_text.specs.declared.tree.Tree.{Tree}
-use Rattle.sql_text.specs.declared.tree.Tree.TheFolds.{fold-Tree}
-use Rattle.sql_text.specs.declared.tree.Tree.TheOpen.{Tree-F}
+use Rattle.sql_tree.specs.declared.tree.ColumnName.{ColumnName}
+use Rattle.sql_tree.specs.declared.tree.Tree.{Tree}
+use Rattle.sql_tree.specs.declared.tree.Tree.TheFolds.{fold-Tree}
+use Rattle.sql_tree.specs.declared.tree.Tree.TheOpen.{Tree-F}
 use Rattle.sql_meaning.specs.Scope.{Header, place_in}
 
 -- an entry of FROM with its current row

@@ -5,7 +5,7 @@ ghost use Rattle.sql_meaning.specs.Scope.{single, place_of};
 
 use cal_schema::ColumnDef;
 use cal_value::SqlText;
-use sql_text::ColumnName;
+use sql_tree::ColumnName;
 
 fn is_searched(alias: &SqlText, name: &ColumnName) -> bool
     ensures { result ≡ unwrap_or (option_map (is_same_name alias.now) name.now.alias) true }

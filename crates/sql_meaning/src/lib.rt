@@ -8,8 +8,8 @@ mod misfit;
 ghost use Rattle.std.specs.Prelude.{◌≡◌, [], ◌∷◌, map, filter};
 ghost use Rattle.cal_schema.specs.declared.database.Db.{Db};
 ghost use Rattle.cal_schema.specs.declared.schema.Schema.{Schema};
-ghost use Rattle.sql_text.specs.declared.select.FromEntry.{FromEntry};
-ghost use Rattle.sql_text.specs.declared.select.Select.{Select};
+ghost use Rattle.sql_tree.specs.declared.select.FromEntry.{FromEntry};
+ghost use Rattle.sql_tree.specs.declared.select.Select.{Select};
 ghost use Rattle.sql_meaning.specs.Direct.{direct, rows_of, bound, passes, item_values};
 
 pub use columns::column_place;

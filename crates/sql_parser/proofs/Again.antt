@@ -12,15 +12,15 @@ use Rattle.sql_text.specs.declared.token.Token.TheVariants.{Word, Symbol}
 use Rattle.sql_text.specs.declared.token.Reserved.{Reserved}
 use Rattle.sql_text.specs.declared.token.Reserved.TheVariants as w
 use Rattle.sql_text.specs.declared.token.Symbol.TheVariants as s
-use Rattle.sql_text.specs.declared.tree.Tree.{Tree}
-use Rattle.sql_text.specs.declared.tree.Tree.TheFolds.{fold-roll-Tree, map-Tree}
-use Rattle.sql_text.specs.declared.tree.Tree.TheOpen.{Tree-F}
-use Rattle.sql_text.specs.declared.tree.Tree.TheViews.{out-Tree, roll-Tree, out-roll-Tree, roll-out-Tree}
-use Rattle.sql_text.specs.declared.tree.Tree.TheVariants.{Column, Literal, Negate, Binary, Not, IsNull, Aggregate, rolls-Column, rolls-Literal, rolls-Negate, rolls-Binary, rolls-Not, rolls-IsNull, rolls-Aggregate}
-use Rattle.sql_text.specs.declared.tree.ColumnName.{ColumnName}
-use Rattle.sql_text.specs.Printing.{Printed, node, printed_tree, tree_tokens, at_least, in_brackets, dotted, column_tokens, value_level, value_tokens, op_level, left_level, op_token, agg_token, binary_tokens, null_test_tokens, call_tokens}
-use Rattle.sql_text.proofs.Writes.{printed_binary}
-use Rattle.sql_text.specs.Same.{placeless_node, placeless_tree}
+use Rattle.sql_tree.specs.declared.tree.Tree.{Tree}
+use Rattle.sql_tree.specs.declared.tree.Tree.TheFolds.{fold-roll-Tree, map-Tree}
+use Rattle.sql_tree.specs.declared.tree.Tree.TheOpen.{Tree-F}
+use Rattle.sql_tree.specs.declared.tree.Tree.TheViews.{out-Tree, roll-Tree, out-roll-Tree, roll-out-Tree}
+use Rattle.sql_tree.specs.declared.tree.Tree.TheVariants.{Column, Literal, Negate, Binary, Not, IsNull, Aggregate, rolls-Column, rolls-Literal, rolls-Negate, rolls-Binary, rolls-Not, rolls-IsNull, rolls-Aggregate}
+use Rattle.sql_tree.specs.declared.tree.ColumnName.{ColumnName}
+use Rattle.sql_printer.specs.Printing.{Printed, node, printed_tree, tree_tokens, at_least, in_brackets, dotted, column_tokens, value_level, value_tokens, op_level, left_level, op_token, agg_token, binary_tokens, null_test_tokens, call_tokens}
+use Rattle.sql_printer.proofs.Writes.{printed_binary}
+use Rattle.sql_tree.specs.Same.{placeless_node, placeless_tree}
 use Rattle.sql_parser.specs.Operators.{aggregates}
 use Rattle.sql_parser.specs.Grammar.{is_column, of_column, column_layer, measure_layer, IsColumn, plain, qualified, IsExpr, one_conj, or_conj, IsConj, one_neg, and_neg, IsNeg, not_neg, one_pred, IsPred, one_sum, compared, is_null, is_not_null, IsSum, one_term, add_term, IsTerm, one_fact, times_fact, IsFact, minus_fact, one_prim, IsPrim, number, text, true_word, false_word, column, one_agg, bracket, IsAgg, count_all, aggregate}
 use Rattle.sql_parser.proofs.Steps.{no_some, some_same}

@@ -10,23 +10,23 @@ use Rattle.sql_text.specs.declared.token.Token.TheVariants.{Name, Word, Symbol}
 use Rattle.sql_text.specs.declared.token.Reserved.{Reserved}
 use Rattle.sql_text.specs.declared.token.Reserved.TheVariants as w
 use Rattle.sql_text.specs.declared.token.Symbol.TheVariants as s
-use Rattle.sql_text.specs.declared.tree.Tree.{Tree}
-use Rattle.sql_text.specs.declared.tree.ColumnName.{ColumnName}
-use Rattle.sql_text.specs.declared.select.TableName.{TableName}
-use Rattle.sql_text.specs.declared.select.Item.{Item}
-use Rattle.sql_text.specs.declared.select.Items.{Items}
-use Rattle.sql_text.specs.declared.select.Items.TheVariants.{Star, Listed}
-use Rattle.sql_text.specs.declared.select.Cond.{Cond}
-use Rattle.sql_text.specs.declared.select.Cond.TheVariants.{On, Using}
-use Rattle.sql_text.specs.declared.select.How.{How}
-use Rattle.sql_text.specs.declared.select.How.TheVariants as how
-use Rattle.sql_text.specs.declared.select.FromEntry.{FromEntry}
-use Rattle.sql_text.specs.declared.select.KeyBy.{KeyBy}
-use Rattle.sql_text.specs.declared.select.OrderKey.{OrderKey}
-use Rattle.sql_text.specs.declared.select.Select.{Select}
-use Rattle.sql_text.specs.Printing as printing
-use Rattle.sql_text.specs.Printing.{Tokens, listed, dotted, column_tokens, table_tokens, name_tokens, tree_tokens, optional, item_tokens, items_tokens, cond_tokens, alias_tokens, entry_tokens, word_if, by_tokens, nulls_tokens, key_tokens, select_tokens}
-use Rattle.sql_text.specs.Same.{placeless_tree, placeless_item, placeless_items, placeless_cond, placeless_entry, placeless_key, placeless_select}
+use Rattle.sql_tree.specs.declared.tree.Tree.{Tree}
+use Rattle.sql_tree.specs.declared.tree.ColumnName.{ColumnName}
+use Rattle.sql_tree.specs.declared.select.TableName.{TableName}
+use Rattle.sql_tree.specs.declared.select.Item.{Item}
+use Rattle.sql_tree.specs.declared.select.Items.{Items}
+use Rattle.sql_tree.specs.declared.select.Items.TheVariants.{Star, Listed}
+use Rattle.sql_tree.specs.declared.select.Cond.{Cond}
+use Rattle.sql_tree.specs.declared.select.Cond.TheVariants.{On, Using}
+use Rattle.sql_tree.specs.declared.select.How.{How}
+use Rattle.sql_tree.specs.declared.select.How.TheVariants as how
+use Rattle.sql_tree.specs.declared.select.FromEntry.{FromEntry}
+use Rattle.sql_tree.specs.declared.select.KeyBy.{KeyBy}
+use Rattle.sql_tree.specs.declared.select.OrderKey.{OrderKey}
+use Rattle.sql_tree.specs.declared.select.Select.{Select}
+use Rattle.sql_printer.specs.Printing as printing
+use Rattle.sql_printer.specs.Printing.{Tokens, listed, dotted, column_tokens, table_tokens, name_tokens, tree_tokens, optional, item_tokens, items_tokens, cond_tokens, alias_tokens, entry_tokens, word_if, by_tokens, nulls_tokens, key_tokens, select_tokens}
+use Rattle.sql_tree.specs.Same.{placeless_tree, placeless_item, placeless_items, placeless_cond, placeless_entry, placeless_key, placeless_select}
 use Rattle.sql_parser.specs.Grammar.{Separated, last, comma, IsTable, plain_table, qualified_table, IsAlias, no_alias, as_alias, IsItem, item, AreItems, star, items, IsEntry, entry, name, IsCond, on, using, IsJoin, comma_entry, cross_join, join, inner_join, left_join, left_outer_join, AreJoins, no_joins, joins, IsClause, no_clause, clause, IsColumnAt, AreGroups, no_groups, groups, IsKeyBy, by_number, by_column, IsDirection, no_direction, desc, IsNulls, no_nulls, nulls_first, nulls_last, IsKey, key, AreKeys, no_keys, keys, IsDistinct, all_rows, distinct, IsFrom, from, IsSelect, select}
 use Rattle.sql_parser.proofs.Again.{Respelled, expr_respelled, column_spelled}
 

@@ -7,13 +7,13 @@ use Rattle.sql_text.specs.declared.token.Token.{Token}
 use Rattle.sql_text.specs.declared.token.Token.TheVariants.{Word, Symbol}
 use Rattle.sql_text.specs.declared.token.Reserved.TheVariants as w
 use Rattle.sql_text.specs.declared.token.Symbol.TheVariants as s
-use Rattle.sql_text.specs.declared.tree.Tree.{Tree}
-use Rattle.sql_text.specs.declared.tree.ColumnName.{ColumnName}
-use Rattle.sql_text.specs.declared.statement.TileText.{TileText}
-use Rattle.sql_text.specs.declared.statement.Statement.{Statement}
-use Rattle.sql_text.specs.declared.statement.Statement.TheVariants as statement
-use Rattle.sql_text.specs.Printing.{Tokens, listed, in_brackets, column_tokens, table_tokens, value_tokens, row_tokens, tree_tokens, optional, measures_tokens, printed_tokens}
-use Rattle.sql_text.specs.Same.{placeless_tree, placeless_tile, placeless}
+use Rattle.sql_tree.specs.declared.tree.Tree.{Tree}
+use Rattle.sql_tree.specs.declared.tree.ColumnName.{ColumnName}
+use Rattle.sql_tree.specs.declared.statement.TileText.{TileText}
+use Rattle.sql_tree.specs.declared.statement.Statement.{Statement}
+use Rattle.sql_tree.specs.declared.statement.Statement.TheVariants as statement
+use Rattle.sql_printer.specs.Printing.{Tokens, listed, in_brackets, column_tokens, table_tokens, value_tokens, row_tokens, tree_tokens, optional, measures_tokens, printed_tokens}
+use Rattle.sql_tree.specs.Same.{placeless_tree, placeless_tile, placeless}
 use Rattle.sql_parser.specs.Grammar.{IsLit, number_lit, minus_number_lit, text_lit, true_lit, false_lit, null_lit, IsRow, row, AreDims, no_dims, dims, IsMeasure, measure, AreMeasures, no_measures, measures, IsTile, tile, IsBody, query, explain_plan, explain_memo, insert, refresh, create_tile, drop_tile, choose_tiles, Spells, body, ended}
 use Rattle.sql_parser.proofs.Again.{Respelled, agg_again, measure_same}
 use Rattle.sql_parser.proofs.AgainSelect.{listed_again, listed_spelled, table_spelled, columns_spelled, select_again}

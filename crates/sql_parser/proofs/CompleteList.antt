@@ -6,7 +6,7 @@ use Rattle.sql_text.specs.declared.token.Reserved.{Reserved}
 use Rattle.sql_text.specs.declared.token.Reserved.TheVariants as w
 use Rattle.sql_text.specs.declared.token.Symbol.{Symbol as Sign}
 use Rattle.sql_text.specs.declared.token.Symbol.TheVariants as s
-use Rattle.sql_text.specs.declared.select.TableName.{TableName}
+use Rattle.sql_tree.specs.declared.select.TableName.{TableName}
 use Rattle.sql_parser.specs.Input.{Input, Reader, and_then, next, name, begins, is_name, is_word, is_symbol, same_word, same_symbol, sees_name, sees_word, sees_symbol, after_word, after_symbol, by_token}
 use Rattle.sql_parser.specs.ReadingList.{separated_from, separated}
 use Rattle.sql_parser.specs.ReadingList as reading

@@ -6,17 +6,17 @@ use Rattle.sql_text.specs.declared.token.Token.TheVariants.{Name, Word, Number, 
 use Rattle.sql_text.specs.declared.token.Reserved.{Reserved}
 use Rattle.sql_text.specs.declared.token.Reserved.TheVariants as w
 use Rattle.sql_text.specs.declared.token.Symbol.TheVariants as s
-use Rattle.sql_text.specs.declared.tree.Tree.{Tree}
-use Rattle.sql_text.specs.declared.tree.ColumnName.{ColumnName}
-use Rattle.sql_text.specs.declared.select.Item.{Item}
-use Rattle.sql_text.specs.declared.select.Items.{Items}
-use Rattle.sql_text.specs.declared.select.Cond.{Cond}
-use Rattle.sql_text.specs.declared.select.Cond.TheVariants.{On, Using}
-use Rattle.sql_text.specs.declared.select.How.TheVariants as how
-use Rattle.sql_text.specs.declared.select.FromEntry.{FromEntry}
-use Rattle.sql_text.specs.declared.select.KeyBy.{KeyBy}
-use Rattle.sql_text.specs.declared.select.OrderKey.{OrderKey}
-use Rattle.sql_text.specs.declared.select.Select.{Select}
+use Rattle.sql_tree.specs.declared.tree.Tree.{Tree}
+use Rattle.sql_tree.specs.declared.tree.ColumnName.{ColumnName}
+use Rattle.sql_tree.specs.declared.select.Item.{Item}
+use Rattle.sql_tree.specs.declared.select.Items.{Items}
+use Rattle.sql_tree.specs.declared.select.Cond.{Cond}
+use Rattle.sql_tree.specs.declared.select.Cond.TheVariants.{On, Using}
+use Rattle.sql_tree.specs.declared.select.How.TheVariants as how
+use Rattle.sql_tree.specs.declared.select.FromEntry.{FromEntry}
+use Rattle.sql_tree.specs.declared.select.KeyBy.{KeyBy}
+use Rattle.sql_tree.specs.declared.select.OrderKey.{OrderKey}
+use Rattle.sql_tree.specs.declared.select.Select.{Select}
 use Rattle.sql_parser.specs.declared.select.JoinKind.{JoinKind}
 use Rattle.sql_parser.specs.declared.select.JoinKind.TheVariants as kind
 use Rattle.sql_parser.specs.Input.{Input, next, name, number, begins, is_word, same_word, same_symbol, sees_word, sees_symbol, sees_number, after_word, after_symbol, expect_word, expect_symbol, by_token}

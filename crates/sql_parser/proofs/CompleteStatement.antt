@@ -8,13 +8,13 @@ use Rattle.sql_text.specs.declared.token.Token.{Token}
 use Rattle.sql_text.specs.declared.token.Token.TheVariants.{Name, Word, Number, Text, Symbol}
 use Rattle.sql_text.specs.declared.token.Reserved.TheVariants as w
 use Rattle.sql_text.specs.declared.token.Symbol.TheVariants as s
-use Rattle.sql_text.specs.declared.tree.Tree.{Tree}
-use Rattle.sql_text.specs.declared.tree.ColumnName.{ColumnName}
-use Rattle.sql_text.specs.declared.select.TableName.{TableName}
-use Rattle.sql_text.specs.declared.select.Select.{Select}
-use Rattle.sql_text.specs.declared.statement.TileText.{TileText}
-use Rattle.sql_text.specs.declared.statement.Statement.{Statement}
-use Rattle.sql_text.specs.declared.statement.Statement.TheVariants as statement
+use Rattle.sql_tree.specs.declared.tree.Tree.{Tree}
+use Rattle.sql_tree.specs.declared.tree.ColumnName.{ColumnName}
+use Rattle.sql_tree.specs.declared.select.TableName.{TableName}
+use Rattle.sql_tree.specs.declared.select.Select.{Select}
+use Rattle.sql_tree.specs.declared.statement.TileText.{TileText}
+use Rattle.sql_tree.specs.declared.statement.Statement.{Statement}
+use Rattle.sql_tree.specs.declared.statement.Statement.TheVariants as statement
 use Rattle.sql_parser.specs.Input.{and_then, next, number, begins, is_word, is_symbol, same_word, same_symbol, sees_word, sees_symbol, after_word, after_symbol, expect_word, expect_symbol, by_token}
 use Rattle.sql_parser.specs.Reading.{aggregation}
 use Rattle.sql_parser.specs.ReadingList.{separated}

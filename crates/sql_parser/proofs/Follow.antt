@@ -8,8 +8,8 @@ use Rattle.sql_text.specs.declared.token.Reserved.{Reserved}
 use Rattle.sql_text.specs.declared.token.Reserved.TheVariants as w
 use Rattle.sql_text.specs.declared.token.Symbol.{Symbol as Sign}
 use Rattle.sql_text.specs.declared.token.Symbol.TheVariants as s
-use Rattle.sql_text.specs.declared.tree.Tree.{Tree}
-use Rattle.sql_text.specs.declared.tree.ColumnName.{ColumnName}
+use Rattle.sql_tree.specs.declared.tree.Tree.{Tree}
+use Rattle.sql_tree.specs.declared.tree.ColumnName.{ColumnName}
 use Rattle.sql_parser.specs.declared.expression.Level.TheVariants as level
 use Rattle.sql_parser.specs.Input.{is_word, is_symbol, same_word, same_symbol, begins}
 use Rattle.sql_parser.specs.Operators.{compares, adds, multiplies, aggregates}

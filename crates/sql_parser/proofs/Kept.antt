@@ -12,12 +12,12 @@ use Rattle.sql_text.specs.declared.token.Reserved.{Reserved}
 use Rattle.sql_text.specs.declared.token.Reserved.TheVariants as w
 use Rattle.sql_text.specs.declared.token.Symbol.{Symbol as Sign}
 use Rattle.sql_text.specs.declared.token.Symbol.TheVariants as s
-use Rattle.sql_text.specs.declared.tree.Tree.{Tree}
-use Rattle.sql_text.specs.declared.tree.Tree.TheVariants.{Column, Negate, Binary, Not, IsNull, Aggregate}
-use Rattle.sql_text.specs.declared.tree.ColumnName.{ColumnName}
+use Rattle.sql_tree.specs.declared.tree.Tree.{Tree}
+use Rattle.sql_tree.specs.declared.tree.Tree.TheVariants.{Column, Negate, Binary, Not, IsNull, Aggregate}
+use Rattle.sql_tree.specs.declared.tree.ColumnName.{ColumnName}
 use Rattle.sql_text.specs.Tokens.{IsToken}
-use Rattle.sql_text.proofs.Writes.{printed_binary}
-use Rattle.sql_text.specs.Printing.{Printed, printed_tree, tree_tokens, at_least, in_brackets, column_tokens, op_level, left_level, op_token, binary_tokens, null_test_tokens, call_tokens}
+use Rattle.sql_printer.proofs.Writes.{printed_binary}
+use Rattle.sql_printer.specs.Printing.{Printed, printed_tree, tree_tokens, at_least, in_brackets, column_tokens, op_level, left_level, op_token, binary_tokens, null_test_tokens, call_tokens}
 use Rattle.sql_parser.specs.Operators.{compares, adds, multiplies}
 use Rattle.sql_parser.specs.Limits.{opened, most_open, operators, is_operator_word}
 use Rattle.sql_parser.specs.Grammar.{IsColumn, plain, qualified, IsExpr, one_conj, or_conj, IsConj, one_neg, and_neg, IsNeg, not_neg, one_pred, IsPred, one_sum, compared, is_null, is_not_null, IsSum, one_term, add_term, IsTerm, one_fact, times_fact, IsFact, minus_fact, one_prim, IsPrim, number, text, true_word, false_word, column, one_agg, bracket, IsAgg, count_all, aggregate}

@@ -8,18 +8,18 @@ use Rattle.sql_text.specs.declared.token.Token.TheVariants.{Name, Word, Number, 
 use Rattle.sql_text.specs.declared.token.Reserved.{Reserved}
 use Rattle.sql_text.specs.declared.token.Reserved.TheVariants as w
 use Rattle.sql_text.specs.declared.token.Symbol.TheVariants as s
-use Rattle.sql_text.specs.declared.tree.Tree.{Tree}
-use Rattle.sql_text.specs.declared.tree.ColumnName.{ColumnName}
-use Rattle.sql_text.specs.declared.select.TableName.{TableName}
-use Rattle.sql_text.specs.declared.select.Item.{Item}
-use Rattle.sql_text.specs.declared.select.Items.{Items}
-use Rattle.sql_text.specs.declared.select.Cond.{Cond}
-use Rattle.sql_text.specs.declared.select.FromEntry.{FromEntry}
-use Rattle.sql_text.specs.declared.select.KeyBy.{KeyBy}
-use Rattle.sql_text.specs.declared.select.OrderKey.{OrderKey}
-use Rattle.sql_text.specs.declared.select.Select.{Select}
-use Rattle.sql_text.specs.Printing as printing
-use Rattle.sql_text.specs.Printing.{Tokens, listed, in_brackets, column_tokens, table_tokens, name_tokens, tree_tokens, optional, item_tokens, items_tokens, cond_tokens, alias_tokens, entry_tokens, word_if, by_tokens, nulls_tokens, key_tokens, select_tokens}
+use Rattle.sql_tree.specs.declared.tree.Tree.{Tree}
+use Rattle.sql_tree.specs.declared.tree.ColumnName.{ColumnName}
+use Rattle.sql_tree.specs.declared.select.TableName.{TableName}
+use Rattle.sql_tree.specs.declared.select.Item.{Item}
+use Rattle.sql_tree.specs.declared.select.Items.{Items}
+use Rattle.sql_tree.specs.declared.select.Cond.{Cond}
+use Rattle.sql_tree.specs.declared.select.FromEntry.{FromEntry}
+use Rattle.sql_tree.specs.declared.select.KeyBy.{KeyBy}
+use Rattle.sql_tree.specs.declared.select.OrderKey.{OrderKey}
+use Rattle.sql_tree.specs.declared.select.Select.{Select}
+use Rattle.sql_printer.specs.Printing as printing
+use Rattle.sql_printer.specs.Printing.{Tokens, listed, in_brackets, column_tokens, table_tokens, name_tokens, tree_tokens, optional, item_tokens, items_tokens, cond_tokens, alias_tokens, entry_tokens, word_if, by_tokens, nulls_tokens, key_tokens, select_tokens}
 use Rattle.sql_parser.specs.Grammar as grammar
 use Rattle.sql_parser.specs.Grammar.{IsColumn, Separated, last, comma, IsTable, plain_table, qualified_table, IsAlias, no_alias, as_alias, IsItem, item, AreItems, star, items, IsEntry, entry, IsName, name, IsCond, on, using, IsJoin, comma_entry, cross_join, join, inner_join, left_join, left_outer_join, AreJoins, no_joins, joins, IsClause, no_clause, clause, IsColumnAt, AreGroups, no_groups, groups, IsKeyBy, by_number, by_column, IsDirection, no_direction, asc, desc, IsNulls, no_nulls, nulls_first, nulls_last, IsKey, key, AreKeys, no_keys, keys, IsDistinct, all_rows, distinct, IsFrom, from, IsSelect, select}
 use Rattle.sql_parser.proofs.AgainSelect.{listed_comma, clause_some}

@@ -6,16 +6,16 @@ use Rattle.sql_text.specs.declared.token.Token.{Token}
 use Rattle.sql_text.specs.declared.token.Token.TheVariants.{Word, Number, Text, Symbol}
 use Rattle.sql_text.specs.declared.token.Reserved.TheVariants as w
 use Rattle.sql_text.specs.declared.token.Symbol.TheVariants as s
-use Rattle.sql_text.specs.declared.tree.Tree.{Tree}
-use Rattle.sql_text.specs.declared.tree.ColumnName.{ColumnName}
-use Rattle.sql_text.specs.declared.statement.TileText.{TileText}
-use Rattle.sql_text.specs.declared.statement.Statement.{Statement}
-use Rattle.sql_text.specs.Printing.{listed, in_brackets, column_tokens, value_tokens, row_tokens, tree_tokens, optional, measures_tokens, tile_tokens, printed_tokens, printed}
+use Rattle.sql_tree.specs.declared.tree.Tree.{Tree}
+use Rattle.sql_tree.specs.declared.tree.ColumnName.{ColumnName}
+use Rattle.sql_tree.specs.declared.statement.TileText.{TileText}
+use Rattle.sql_tree.specs.declared.statement.Statement.{Statement}
+use Rattle.sql_printer.specs.Printing.{listed, in_brackets, column_tokens, value_tokens, row_tokens, tree_tokens, optional, measures_tokens, tile_tokens, printed_tokens, printed}
 use Rattle.sql_text.specs.Tokens.{IsToken, HasTokens}
-use Rattle.sql_text.proofs.Alike.{printed_alike}
+use Rattle.sql_printer.proofs.Alike.{printed_alike}
 use Rattle.sql_text.proofs.Reading.{tokens_fit}
-use Rattle.sql_text.proofs.Written.{text_has_tokens}
-use Rattle.sql_text.specs.Writing.{text_of}
+use Rattle.sql_printer.proofs.Written.{text_has_tokens}
+use Rattle.sql_printer.specs.Writing.{text_of}
 use Rattle.sql_parser.specs.Limits.{is_insert}
 use Rattle.sql_parser.specs.Answers.{IsWithinLimits, IsTextOf}
 use Rattle.sql_parser.specs.Grammar.{IsLit, number_lit, minus_number_lit, text_lit, true_lit, false_lit, null_lit, IsRow, row, AreDims, no_dims, dims, IsMeasure, measure, AreMeasures, no_measures, measures, IsTile, tile, select, IsBody, query, explain_plan, explain_memo, insert, refresh, create_tile, drop_tile, choose_tiles, Spells, body, ended}

@@ -4,7 +4,7 @@ use Rattle.sql_text.specs.declared.token.Token.{Token}
 use Rattle.sql_text.specs.declared.token.Token.TheVariants.{Name, Word, Symbol}
 use Rattle.sql_text.specs.declared.token.Reserved.TheVariants as w
 use Rattle.sql_text.specs.declared.token.Symbol.TheVariants as s
-use Rattle.sql_text.specs.declared.select.TableName.{TableName}
+use Rattle.sql_tree.specs.declared.select.TableName.{TableName}
 use Rattle.sql_parser.specs.Input.{Input, Reader, ◌>>=◌, pure, next, name, sees_name}
 use Rattle.sql_parser.specs.ReadingList.{separated_from, separated}
 use Rattle.sql_parser.specs.ReadingList as reading

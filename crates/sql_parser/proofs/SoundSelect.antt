@@ -6,21 +6,21 @@ use Rattle.sql_text.specs.declared.token.Reserved.{Reserved}
 use Rattle.sql_text.specs.declared.token.Reserved.TheVariants as w
 use Rattle.sql_text.specs.declared.token.Symbol.{Symbol as Sign}
 use Rattle.sql_text.specs.declared.token.Symbol.TheVariants as s
-use Rattle.sql_text.specs.declared.tree.Tree.{Tree}
-use Rattle.sql_text.specs.declared.tree.ColumnName.{ColumnName}
-use Rattle.sql_text.specs.declared.select.TableName.{TableName}
-use Rattle.sql_text.specs.declared.select.Item.{Item}
-use Rattle.sql_text.specs.declared.select.Items.{Items}
-use Rattle.sql_text.specs.declared.select.Items.TheVariants.{Star, Listed}
-use Rattle.sql_text.specs.declared.select.Cond.{Cond}
-use Rattle.sql_text.specs.declared.select.Cond.TheVariants.{On}
-use Rattle.sql_text.specs.declared.select.How.{How}
-use Rattle.sql_text.specs.declared.select.How.TheVariants as how
-use Rattle.sql_text.specs.declared.select.FromEntry.{FromEntry}
-use Rattle.sql_text.specs.declared.select.KeyBy.{KeyBy}
-use Rattle.sql_text.specs.declared.select.KeyBy.TheVariants as by
-use Rattle.sql_text.specs.declared.select.OrderKey.{OrderKey}
-use Rattle.sql_text.specs.declared.select.Select.{Select}
+use Rattle.sql_tree.specs.declared.tree.Tree.{Tree}
+use Rattle.sql_tree.specs.declared.tree.ColumnName.{ColumnName}
+use Rattle.sql_tree.specs.declared.select.TableName.{TableName}
+use Rattle.sql_tree.specs.declared.select.Item.{Item}
+use Rattle.sql_tree.specs.declared.select.Items.{Items}
+use Rattle.sql_tree.specs.declared.select.Items.TheVariants.{Star, Listed}
+use Rattle.sql_tree.specs.declared.select.Cond.{Cond}
+use Rattle.sql_tree.specs.declared.select.Cond.TheVariants.{On}
+use Rattle.sql_tree.specs.declared.select.How.{How}
+use Rattle.sql_tree.specs.declared.select.How.TheVariants as how
+use Rattle.sql_tree.specs.declared.select.FromEntry.{FromEntry}
+use Rattle.sql_tree.specs.declared.select.KeyBy.{KeyBy}
+use Rattle.sql_tree.specs.declared.select.KeyBy.TheVariants as by
+use Rattle.sql_tree.specs.declared.select.OrderKey.{OrderKey}
+use Rattle.sql_tree.specs.declared.select.Select.{Select}
 use Rattle.sql_parser.specs.declared.select.JoinKind.{JoinKind}
 use Rattle.sql_parser.specs.declared.select.JoinKind.TheVariants as kind
 use Rattle.sql_parser.specs.declared.expression.Part.TheVariants as part

@@ -3,7 +3,7 @@ use Rattle.std.proofs.Common.{◌≡◌, ℕ, ◌+◌, true, false, List, [], �
 use Rattle.sql_text.specs.declared.token.Token.{Token}
 use Rattle.sql_text.specs.declared.token.Token.TheVariants.{Name, Word, Number, Text, Symbol}
 use Rattle.sql_text.specs.declared.token.Reserved.TheVariants as w
-use Rattle.sql_text.specs.declared.statement.Statement.{Statement}
+use Rattle.sql_tree.specs.declared.statement.Statement.{Statement}
 use Rattle.sql_parser.specs.Input.{begins, is_word, same_word}
 use Rattle.sql_parser.specs.Limits.{most_open, operators, is_insert}
 use Rattle.sql_parser.specs.Grammar.{Spells}

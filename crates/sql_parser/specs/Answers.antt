@@ -1,8 +1,8 @@
 -- What the parser answers, where each fault comes, and when a text is one of a statement.
 use Rattle.std.specs.Prelude.{◌≡◌, ℕ, ◌<◌, ◌≤◌, false, List, Option, Some, None, Result, Ok, Err}
 use Rattle.sql_text.specs.declared.token.Token.{Token}
-use Rattle.sql_text.specs.declared.statement.Statement.{Statement}
-use Rattle.sql_text.specs.Same.{IsSame}
+use Rattle.sql_tree.specs.declared.statement.Statement.{Statement}
+use Rattle.sql_tree.specs.Same.{IsSame}
 use Rattle.sql_text.specs.Tokens.{HasTokens}
 use Rattle.sql_parser.specs.declared.fault.ParseFault.{ParseFault}
 use Rattle.sql_parser.specs.declared.fault.ParseFault.TheVariants.{TooDeep, TooManyOperators, NotSql, NoMemory}

@@ -2,7 +2,7 @@
 use Rattle.std.specs.Prelude.{ℕ, Result}
 use Rattle.std.specs.declared.alloc.Global.{Global}
 use denote.Ref.{MutBor}
-use Rattle.sql_text.specs.declared.tree.Tree.{Tree}
+use Rattle.sql_tree.specs.declared.tree.Tree.{Tree}
 use Rattle.sql_parser.specs.declared.fault.ParseFault.{ParseFault}
 use Rattle.sql_parser.specs.declared.expression.Part.{Part}
 use Rattle.sql_parser.specs.Input.{Input, Reads}

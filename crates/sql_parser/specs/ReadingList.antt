@@ -2,7 +2,7 @@
 use Rattle.std.specs.Prelude.{ℕ, zero, suc, if◌then◌else◌, ◌||◌, List, [], ◌∷◌, ◌++◌, length, Option, Some, None}
 use Rattle.sql_text.specs.declared.token.Reserved.TheVariants as w
 use Rattle.sql_text.specs.declared.token.Symbol.TheVariants as s
-use Rattle.sql_text.specs.declared.select.TableName.{TableName}
+use Rattle.sql_tree.specs.declared.select.TableName.{TableName}
 use Rattle.sql_parser.specs.Input.{Reader, ◌>>=◌, pure, look, sees_name, eat_word, eat_symbol, name}
 
 -- The number bounds the commas.

@@ -7,11 +7,11 @@ use Rattle.sql_text.specs.declared.token.Token.TheVariants.{Name, Word, Number, 
 use Rattle.sql_text.specs.declared.token.Reserved.{Reserved}
 use Rattle.sql_text.specs.declared.token.Reserved.TheVariants as w
 use Rattle.sql_text.specs.declared.token.Symbol.TheVariants as s
-use Rattle.sql_text.specs.declared.tree.Tree.{Tree}
-use Rattle.sql_text.specs.declared.tree.ColumnName.{ColumnName}
-use Rattle.sql_text.specs.declared.statement.TileText.{TileText}
-use Rattle.sql_text.specs.declared.statement.Statement.{Statement}
-use Rattle.sql_text.specs.declared.statement.Statement.TheVariants as statement
+use Rattle.sql_tree.specs.declared.tree.Tree.{Tree}
+use Rattle.sql_tree.specs.declared.tree.ColumnName.{ColumnName}
+use Rattle.sql_tree.specs.declared.statement.TileText.{TileText}
+use Rattle.sql_tree.specs.declared.statement.Statement.{Statement}
+use Rattle.sql_tree.specs.declared.statement.Statement.TheVariants as statement
 use Rattle.sql_parser.specs.Input.{Input, Reader, ◌>>=◌, ◌>>◌, pure, refuse, skip, by_token, eat_word, eat_symbol, expect_word, expect_symbol, number}
 use Rattle.sql_parser.specs.Grammar.{of_column}
 use Rattle.sql_parser.specs.Reading.{column, aggregation}

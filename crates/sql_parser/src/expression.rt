@@ -9,7 +9,8 @@ use crate::cursor::Cursor;
 use crate::fault::ParseFault;
 use crate::limits::{MOST_OPEN, MOST_OPERATORS};
 use cal_value::{Agg, Duplicate, NoMemory, Op, Value};
-use sql_text::{ColumnName, Reserved, Symbol, Token, Tree};
+use sql_text::{Reserved, Symbol, Token};
+use sql_tree::{ColumnName, Tree};
 use sqlite_items::Boxed;
 use std::alloc::Global;
 

@@ -1,9 +1,9 @@
 //! Laws of what statements are printed as.
 ghost use Rattle.std.specs.Prelude.{◌≡◌, ℕ, List as ListOf};
-ghost use Rattle.sql_text.specs.declared.statement.Statement.{Statement};
+ghost use Rattle.sql_tree.specs.declared.statement.Statement.{Statement};
 ghost use Rattle.sql_text.specs.declared.token.Token.{Token};
-ghost use Rattle.sql_text.specs.Printing.{printed, printed_tokens};
-ghost use Rattle.sql_text.specs.Same.{IsSame};
+ghost use Rattle.sql_printer.specs.Printing.{printed, printed_tokens};
+ghost use Rattle.sql_tree.specs.Same.{IsSame};
 ghost use Rattle.sql_parser.specs.Answers.{IsTextOf, IsWithinLimits};
 ghost use Rattle.sql_parser.specs.Grammar.{Spells};
 

@@ -7,7 +7,8 @@ ghost use Rattle.sql_parser.specs.ReadingList as spec;
 use crate::cursor::Cursor;
 use crate::fault::ParseFault;
 use cal_value::{List, SqlText};
-use sql_text::{Reserved, Symbol, TableName};
+use sql_text::{Reserved, Symbol};
+use sql_tree::TableName;
 use std::alloc::Global;
 
 /// A part of a statement that stands in lists.

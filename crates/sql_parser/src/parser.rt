@@ -1,7 +1,7 @@
 //! The parser.
 ghost use Rattle.std.specs.Prelude.{◌≡◌, List as ListOf, IfOk, IfErr, OnOk};
 ghost use Rattle.sql_text.specs.declared.token.Token.{Token as TokenOf};
-ghost use Rattle.sql_text.specs.declared.statement.Statement.{Statement as StatementOf};
+ghost use Rattle.sql_tree.specs.declared.statement.Statement.{Statement as StatementOf};
 ghost use Rattle.sql_parser.specs.Answers.{IsWithinLimits, IsFaultOf, IsAnswer};
 ghost use Rattle.sql_parser.specs.Grammar.{Spells};
 ghost use Rattle.sql_parser.specs.ReadingStatement as reading;
@@ -11,7 +11,8 @@ use crate::fault::ParseFault;
 use crate::limits::{MOST_OPEN, MOST_OPERATORS, is_insert, most_open, operators};
 use crate::statement::statement;
 use cal_value::List;
-use sql_text::{Statement, Token};
+use sql_text::Token;
+use sql_tree::Statement;
 use std::alloc::Global;
 
 #[tactic(auto, unfolding(crate::specs::ReadingStatement::read_tokens))]

@@ -9,9 +9,9 @@ use crate::expression::{column, expression};
 use crate::fault::ParseFault;
 use crate::list::{Parse, alias, separated, table};
 use cal_value::{Duplicate, List, NoMemory, SqlText};
-use sql_text::{
-    ColumnName, Cond, FromEntry, How, Item, Items, KeyBy, OrderKey, Reserved, Select, Symbol,
-    TableName, Token, Tree,
+use sql_text::{Reserved, Symbol, Token};
+use sql_tree::{
+    ColumnName, Cond, FromEntry, How, Item, Items, KeyBy, OrderKey, Select, TableName, Tree,
 };
 use std::alloc::Global;
 

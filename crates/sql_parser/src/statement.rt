@@ -10,7 +10,8 @@ use crate::fault::ParseFault;
 use crate::list::{Parse, separated, table};
 use crate::select::select;
 use cal_value::{Duplicate, List, Value};
-use sql_text::{ColumnName, Reserved, Statement, Symbol, TileText, Token, Tree};
+use sql_text::{Reserved, Symbol, Token};
+use sql_tree::{ColumnName, Statement, TileText, Tree};
 use std::alloc::Global;
 
 fn literal_word(cursor: &mut Cursor<'_>, word: Reserved) -> Result<Value, ParseFault>

@@ -1,5 +1,6 @@
 use crate::{ParseFault, one_statement, parse, printed_text_spells_the_statement};
-use sql_text::{print_statement, tokens};
+use sql_printer::print_statement;
+use sql_text::tokens;
 use std::alloc::Global;
 use std::test::Fail;
 

@@ -1,9 +1,6 @@
-pub mod Alike
 pub mod Digits
 pub mod Front
-pub mod Space
-pub mod Writes
-pub mod Written
 pub mod Quotes
 pub mod Reading
 pub mod Runs
+pub mod Space

@@ -1,9 +1,6 @@
 //! Laws of the definitions.
 ghost use Rattle.std.specs.Prelude.{◌≡◌, ◌⊎◌, ℕ, List as ListOf};
-ghost use Rattle.sql_text.specs.declared.statement.Statement.{Statement};
 ghost use Rattle.sql_text.specs.declared.token.Token.{Token};
-ghost use Rattle.sql_text.specs.Printing.{printed};
-ghost use Rattle.sql_text.specs.Same.{IsSame};
 ghost use Rattle.sql_text.specs.Tokens.{HasTokens, StopsAt};
 
 /// A text has one list of tokens or one place where none begins, and never both.
@@ -12,9 +9,4 @@ pub fn each_text_reads_one_way()
     ensures never_both { (cs : ListOf ℕ) (ts : ListOf Token) (at : ℕ) → HasTokens cs ts → StopsAt cs at → ⊥ }
     ensures one_list { (cs : ListOf ℕ) (ts us : ListOf Token) → HasTokens cs ts → HasTokens cs us → us ≡ ts }
     ensures one_place { (cs : ListOf ℕ) (a b : ℕ) → StopsAt cs a → StopsAt cs b → a ≡ b }
-{}
-
-/// Statements that are the same but for places are printed alike.
-pub fn same_statements_print_alike()
-    ensures { (a b : Statement) → IsSame a b → printed a ≡ printed b }
 {}

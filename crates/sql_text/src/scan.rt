@@ -12,12 +12,9 @@ ghost use Rattle.sql_text.specs.Tokens.{HasTokens, IsTokenFaultOf, IsToken};
 
 use crate::token::{Symbol, Token};
 use crate::words::reserved_word;
-use cal_value::{List, NUMBER_LIMIT, NoMemory, SqlText, TEXT_LIMIT};
+use cal_value::{List, NAME_LIMIT, NUMBER_LIMIT, NoMemory, SqlText, TEXT_LIMIT};
 use std::alloc::{AllocError, Global};
 use thiserror::Error;
-
-/// How many characters a name may have.
-pub const NAME_LIMIT: u32 = 128;
 
 /// Why a text has no tokens: at the character `at`, counted from 0, no token begins; or there was no memory.
 #[derive(Clone, Copy, Debug, PartialEq, Eq, Error)]
@@ -47,13 +44,15 @@ fn is_blank(c: char) -> bool
     matches!(c, ' ' | '\t' | '\r' | '\n')
 }
 
-pub(crate) fn begins_word(c: char) -> bool
+/// Whether a word may begin with this character.
+pub fn begins_word(c: char) -> bool
     ensures { result ≡ spec.begins_word c }
 {
     c.is_ascii_alphabetic() || c == '_'
 }
 
-pub(crate) fn continues_word(c: char) -> bool
+/// Whether this character may stand in a word behind its first.
+pub fn continues_word(c: char) -> bool
     ensures { result ≡ spec.continues_word c }
 {
     c.is_ascii_alphanumeric() || c == '_'

@@ -16,11 +16,11 @@ use Rattle.cal_value.specs.Interval.{excludes_zero, at_ends, negated, is_in_rang
 use Rattle.cal_value.specs.Types.{number_type, same_kind, is_integer, is_boolean, boolean_type, integer_type}
 use Rattle.cal_value.proofs.TypeLemmas.{and-both, same_kind-is}
 use Rattle.cal_expr.specs.Typing.{column_type, negation_type, not_type, op_type, of_both, arithmetic_type, quotient_type, comparison_type, connective_type, either_nullable}
-use Rattle.sql_text.specs.declared.tree.ColumnName.{ColumnName}
-use Rattle.sql_text.specs.declared.tree.Tree.{Tree}
-use Rattle.sql_text.specs.declared.tree.Tree.TheFolds.{fold-roll-Tree, ind-Tree, map-Tree}
-use Rattle.sql_text.specs.declared.tree.Tree.TheOpen.{Tree-F}
-use Rattle.sql_text.specs.declared.tree.Tree.TheViews.{roll-Tree}
+use Rattle.sql_tree.specs.declared.tree.ColumnName.{ColumnName}
+use Rattle.sql_tree.specs.declared.tree.Tree.{Tree}
+use Rattle.sql_tree.specs.declared.tree.Tree.TheFolds.{fold-roll-Tree, ind-Tree, map-Tree}
+use Rattle.sql_tree.specs.declared.tree.Tree.TheOpen.{Tree-F}
+use Rattle.sql_tree.specs.declared.tree.Tree.TheViews.{roll-Tree}
 use Rattle.sql_meaning.specs.Kinds.{Kinded, kinded, kinded_step, literal_kinded, unless, is_of_kind, not_boolean, op_kind, op_clash, arithmetic_clash}
 use Rattle.sql_meaning.specs.Refused.{columns_in, columns_step, is_unknown_column}
 use Rattle.sql_meaning.specs.Scope.{Header, place_of, type_in, types_in}

@@ -7,10 +7,10 @@ use Rattle.cal_value.specs.declared.value.Value.TheVariants.{Null}
 use Rattle.cal_value.specs.Types.{boolean_type}
 use Rattle.cal_expr.specs.declared.expr.Expr.{Expr}
 use Rattle.cal_expr.specs.Typing.{type_of, type_step, column_type, negation_type, not_type, op_type, of_both}
-use Rattle.sql_text.specs.declared.tree.Tree.{Tree}
-use Rattle.sql_text.specs.declared.tree.Tree.TheFolds.{fold-roll-Tree, ind-Tree, map-Tree}
-use Rattle.sql_text.specs.declared.tree.Tree.TheOpen.{Tree-F}
-use Rattle.sql_text.specs.declared.tree.Tree.TheViews.{roll-Tree}
+use Rattle.sql_tree.specs.declared.tree.Tree.{Tree}
+use Rattle.sql_tree.specs.declared.tree.Tree.TheFolds.{fold-roll-Tree, ind-Tree, map-Tree}
+use Rattle.sql_tree.specs.declared.tree.Tree.TheOpen.{Tree-F}
+use Rattle.sql_tree.specs.declared.tree.Tree.TheViews.{roll-Tree}
 use Rattle.sql_meaning.specs.Scope.{Header, place_of, types_in}
 use Rattle.sql_meaning.specs.Sizes.{Sized, sized, sized_step, tree_type}
 use Rattle.sql_to_rel.specs.Numbered.{numbered, numbered_step, column_at}

@@ -8,11 +8,11 @@ use Rattle.cal_value.specs.Logic.{not3, truth_of, value_of, is_null}
 use Rattle.cal_value.specs.Order.{column_of}
 use Rattle.cal_expr.specs.declared.expr.Expr.{Expr}
 use Rattle.cal_expr.specs.Meaning.{meaning_of, meaning_step, applied, negated}
-use Rattle.sql_text.specs.declared.tree.ColumnName.{ColumnName}
-use Rattle.sql_text.specs.declared.tree.Tree.{Tree}
-use Rattle.sql_text.specs.declared.tree.Tree.TheFolds.{fold-roll-Tree, ind-Tree, map-Tree}
-use Rattle.sql_text.specs.declared.tree.Tree.TheOpen.{Tree-F}
-use Rattle.sql_text.specs.declared.tree.Tree.TheViews.{roll-Tree}
+use Rattle.sql_tree.specs.declared.tree.ColumnName.{ColumnName}
+use Rattle.sql_tree.specs.declared.tree.Tree.{Tree}
+use Rattle.sql_tree.specs.declared.tree.Tree.TheFolds.{fold-roll-Tree, ind-Tree, map-Tree}
+use Rattle.sql_tree.specs.declared.tree.Tree.TheOpen.{Tree-F}
+use Rattle.sql_tree.specs.declared.tree.Tree.TheViews.{roll-Tree}
 use Rattle.sql_meaning.specs.Scope.{Header, place_in, place_of, types_in}
 use Rattle.sql_meaning.specs.Value.{Bound, look_up, value, value_step}
 use Rattle.sql_to_rel.specs.Numbered.{numbered, numbered_step, column_at, flat, IsFull, AreFull}

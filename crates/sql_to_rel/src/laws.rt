@@ -3,7 +3,7 @@ ghost use Rattle.std.specs.Prelude.{◌≡◌, List, [], map, find, None};
 ghost use Rattle.std.specs.Option.{IsSomeAnd};
 ghost use Rattle.cal_expr.specs.Meaning.{meaning_of};
 ghost use Rattle.cal_expr.specs.Typing.{type_of};
-ghost use Rattle.sql_text.specs.declared.tree.Tree.{Tree};
+ghost use Rattle.sql_tree.specs.declared.tree.Tree.{Tree};
 ghost use Rattle.sql_meaning.specs.Kinds.{kinded, clashes};
 ghost use Rattle.sql_meaning.specs.Refused.{is_unknown_column, columns_in};
 ghost use Rattle.sql_meaning.specs.Scope.{Header, types_in};

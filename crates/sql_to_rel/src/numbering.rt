@@ -7,7 +7,7 @@ use cal_expr::Expr;
 use cal_schema::ColumnDef;
 use cal_value::{Duplicate, NoMemory, SqlText, Value};
 use sql_meaning::column_place;
-use sql_text::{ColumnName, Tree};
+use sql_tree::{ColumnName, Tree};
 use std::alloc::Global;
 
 #[tactic(auto, using(crate::proofs::Places::place_rules))]

@@ -1,7 +1,7 @@
 -- Quantifiers over the trees of a SELECT.
 use Rattle.std.proofs.Common.{◌≡◌, refl, ap, sym, ◌∙◌, map, Bool, true, false, ◌||◌, List, [], ◌∷◌, ◌++◌}
 use Rattle.std.specs.List.{list_any}
-use Rattle.sql_text.specs.declared.select.Item.{Item}
+use Rattle.sql_tree.specs.declared.select.Item.{Item}
 use Rattle.sql_meaning.specs.Refused.{has_aggregate}
 
 pub any-append : {A : Type 0} (p : A → Bool) (xs ys : List A) → list_any p (xs ++ ys) ≡ (list_any p xs || list_any p ys)

@@ -2,7 +2,7 @@
 use Rattle.std.proofs.Common.{◌≡◌, ◌<◌, ◌∙◌, ap, sym, refl, arith, ℕ, zero, suc, List, [], ◌∷◌, length, map, get_or, Some, None, slice_get}
 use Rattle.std.specs.Option.{option_and_then}
 use Rattle.cal_schema.specs.declared.column.ColumnDef.{ColumnDef}
-use Rattle.sql_text.specs.declared.tree.ColumnName.{ColumnName}
+use Rattle.sql_tree.specs.declared.tree.ColumnName.{ColumnName}
 use Rattle.sql_meaning.specs.Scope.{single, place_of, type_in, types_in}
 use Rattle.sql_meaning.proofs.OnePlace.{types-single}
 

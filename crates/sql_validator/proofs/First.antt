@@ -4,12 +4,12 @@ use Rattle.std.specs.Option.{option_or}
 use Rattle.std.proofs.lemmas.Grind.{flat_map-append}
 use Rattle.std.proofs.lemmas.List.Folds.{find-append}
 use Rattle.cal_value.specs.declared.operator.Op.{Op}
-use Rattle.sql_text.specs.declared.select.Item.{Item}
-use Rattle.sql_text.specs.declared.tree.ColumnName.{ColumnName}
-use Rattle.sql_text.specs.declared.tree.Tree.{Tree}
-use Rattle.sql_text.specs.declared.tree.Tree.TheFolds.{fold-roll-Tree}
-use Rattle.sql_text.specs.declared.tree.Tree.TheOpen.{Tree-F}
-use Rattle.sql_text.specs.declared.tree.Tree.TheVariants.{Binary, rolls-Binary}
+use Rattle.sql_tree.specs.declared.select.Item.{Item}
+use Rattle.sql_tree.specs.declared.tree.ColumnName.{ColumnName}
+use Rattle.sql_tree.specs.declared.tree.Tree.{Tree}
+use Rattle.sql_tree.specs.declared.tree.Tree.TheFolds.{fold-roll-Tree}
+use Rattle.sql_tree.specs.declared.tree.Tree.TheOpen.{Tree-F}
+use Rattle.sql_tree.specs.declared.tree.Tree.TheVariants.{Binary, rolls-Binary}
 use Rattle.sql_meaning.specs.Refused.{columns_in, columns_step}
 use Rattle.sql_validator.proofs.Parts.{parts, parts-next, parts-around, parts-whole}
 

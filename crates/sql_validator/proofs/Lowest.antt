@@ -5,11 +5,11 @@ use Rattle.std.proofs.lemmas.Bool.Decides.{nat_tests}
 use Rattle.cal_value.specs.declared.operator.Op.{Op}
 use Rattle.cal_value.specs.declared.operator.Op.TheVariants.{Add, Subtract, Multiply, Divide, Equal, NotEqual, Less, LessEqual, Greater, GreaterEqual, And, Or}
 use Rattle.cal_value.specs.declared.kind.Kind.{Kind}
-use Rattle.sql_text.specs.declared.select.Item.{Item}
-use Rattle.sql_text.specs.declared.tree.Tree.{Tree}
-use Rattle.sql_text.specs.declared.tree.Tree.TheFolds.{fold-roll-Tree}
-use Rattle.sql_text.specs.declared.tree.Tree.TheOpen.{Tree-F}
-use Rattle.sql_text.specs.declared.tree.Tree.TheVariants.{Binary, rolls-Binary}
+use Rattle.sql_tree.specs.declared.select.Item.{Item}
+use Rattle.sql_tree.specs.declared.tree.Tree.{Tree}
+use Rattle.sql_tree.specs.declared.tree.Tree.TheFolds.{fold-roll-Tree}
+use Rattle.sql_tree.specs.declared.tree.Tree.TheOpen.{Tree-F}
+use Rattle.sql_tree.specs.declared.tree.Tree.TheVariants.{Binary, rolls-Binary}
 use Rattle.sql_meaning.specs.Kinds.{Kinded, kinded, kinded_step, clashes, op_kind, op_clash}
 use Rattle.sql_meaning.specs.Scope.{Header}
 use Rattle.sql_validator.specs.declared.kinds.Judged.{Judged}

@@ -5,7 +5,7 @@ use Rattle.std.proofs.Math.Seq.{take-suc}
 use Rattle.std.proofs.lemmas.List.{length-take-le}
 use Rattle.std.proofs.lemmas.Fmt.{length-decimal-le}
 use Rattle.cal_schema.specs.declared.column.ColumnDef.{ColumnDef}
-use Rattle.sql_text.specs.declared.select.Item.{Item}
+use Rattle.sql_tree.specs.declared.select.Item.{Item}
 use Rattle.sql_meaning.specs.Direct.{shown}
 use Rattle.sql_meaning.specs.Names.{made_name, star_names, item_name, item_names}
 use Rattle.sql_meaning.specs.Scope.{single}

@@ -12,12 +12,12 @@ use Rattle.cal_value.proofs.IntervalLemmas.{is_number-cut}
 use Rattle.cal_value.specs.declared.kind.SqlType.{SqlType}
 use Rattle.cal_value.specs.declared.operator.Op.{Op}
 use Rattle.cal_expr.specs.Typing.{of_both, op_type}
-use Rattle.sql_text.specs.declared.select.Item.{Item}
-use Rattle.sql_text.specs.declared.select.Select.{Select}
-use Rattle.sql_text.specs.declared.tree.Tree.{Tree}
-use Rattle.sql_text.specs.declared.tree.Tree.TheFolds.{fold-roll-Tree}
-use Rattle.sql_text.specs.declared.tree.Tree.TheOpen.{Tree-F}
-use Rattle.sql_text.specs.declared.tree.Tree.TheVariants.{Binary, rolls-Binary}
+use Rattle.sql_tree.specs.declared.select.Item.{Item}
+use Rattle.sql_tree.specs.declared.select.Select.{Select}
+use Rattle.sql_tree.specs.declared.tree.Tree.{Tree}
+use Rattle.sql_tree.specs.declared.tree.Tree.TheFolds.{fold-roll-Tree}
+use Rattle.sql_tree.specs.declared.tree.Tree.TheOpen.{Tree-F}
+use Rattle.sql_tree.specs.declared.tree.Tree.TheVariants.{Binary, rolls-Binary}
 use Rattle.sql_meaning.specs.Scope.{Header}
 use Rattle.sql_validator.specs.declared.sizes.Weighed.{Weighed}
 use Rattle.sql_validator.proofs.Parts.{parts, parts-next}

@@ -4,8 +4,8 @@ use Rattle.std.specs.List.{flat_map}
 use Rattle.std.proofs.Math.Seq.{take-suc}
 use Rattle.std.proofs.lemmas.List.{map-append, take_all, take-append-drop}
 use Rattle.std.proofs.lemmas.Grind.{flat_map-append}
-use Rattle.sql_text.specs.declared.select.Item.{Item}
-use Rattle.sql_text.specs.declared.tree.Tree.{Tree}
+use Rattle.sql_tree.specs.declared.select.Item.{Item}
+use Rattle.sql_tree.specs.declared.tree.Tree.{Tree}
 
 abbrev pub parts : {A : Type 0} → (Tree → List A) → List Item → List A
 parts f items = flat_map f (map (λ item. item.tree) items)

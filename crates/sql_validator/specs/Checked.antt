@@ -1,7 +1,7 @@
 -- What an accepted SELECT has.
 use Rattle.std.specs.Prelude.{◌≡◌, map, Some, None}
 use Rattle.cal_schema.specs.declared.schema.Schema.{Schema}
-use Rattle.sql_text.specs.declared.select.Select.{Select}
+use Rattle.sql_tree.specs.declared.select.Select.{Select}
 use Rattle.sql_meaning.specs.Names.{output_names}
 use Rattle.sql_meaning.specs.Refused.{refusal_of}
 use Rattle.sql_meaning.specs.Scope.{number_of, scope_of}

@@ -2,7 +2,7 @@
 use Rattle.std.specs.Prelude.{ℕ, List, [], Option, Some, None}
 use Rattle.std.specs.Option.{option_or}
 use Rattle.cal_schema.specs.declared.refusal.Refusal.{Refusal}
-use Rattle.sql_text.specs.declared.select.Select.{Select}
+use Rattle.sql_tree.specs.declared.select.Select.{Select}
 use Rattle.sql_meaning.specs.declared.misfit.Misfit.{Misfit}
 use Rattle.sql_meaning.specs.Kinds.{Kinded}
 use Rattle.sql_meaning.specs.Refused.{lower, lowest, nearer, nearest, unknown_column, type_clash, may_not_fit}

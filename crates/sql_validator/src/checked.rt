@@ -1,5 +1,5 @@
 use cal_value::{List, SqlText};
-use sql_text::Select;
+use sql_tree::Select;
 
 /// A SELECT that is accepted over a schema: the numbers of the tables of FROM, and the names of its columns.
 #[derive(Debug, Drop)]

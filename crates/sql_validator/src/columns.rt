@@ -5,7 +5,7 @@ ghost use Rattle.sql_meaning.specs.Scope.{single, type_in};
 use cal_schema::ColumnDef;
 use cal_value::{SqlText, SqlType};
 use sql_meaning::column_place;
-use sql_text::ColumnName;
+use sql_tree::ColumnName;
 
 #[tactic(auto, using(crate::proofs::ColumnTypes::column_rules))]
 pub(crate) fn column_type(

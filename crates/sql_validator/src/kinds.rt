@@ -11,7 +11,7 @@ ghost use Rattle.sql_validator.specs.Walks.{judged_of, bare};
 use crate::columns::column_type;
 use cal_schema::ColumnDef;
 use cal_value::{Kind, Op, SqlText, Value};
-use sql_text::{ColumnName, Item, Items, Select, Tree};
+use sql_tree::{ColumnName, Item, Items, Select, Tree};
 
 /// The kind of an expression, its own place, and the lowest place in it where kinds don't go together.
 #[derive(Clone, Copy, Debug)]

@@ -9,7 +9,7 @@ ghost use Rattle.sql_meaning.specs.Scope.{single};
 use cal_schema::ColumnDef;
 use cal_value::SqlText;
 use sql_meaning::column_place;
-use sql_text::{ColumnName, Item, Items, Select, Tree};
+use sql_tree::{ColumnName, Item, Items, Select, Tree};
 
 #[tactic(auto, using(crate::proofs::First::first_rules))]
 fn unknown_in<'a>(tree: &'a Tree, alias: &SqlText, columns: &[ColumnDef]) -> Option<&'a ColumnName>

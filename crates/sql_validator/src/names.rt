@@ -1,13 +1,13 @@
 //! The names of the columns of an answer.
 ghost use Rattle.std.specs.Prelude.{◌≡◌, map, IfOk};
-ghost use Rattle.sql_text.specs.declared.tree.Tree.TheViews.{out-Tree};
+ghost use Rattle.sql_tree.specs.declared.tree.Tree.TheViews.{out-Tree};
 ghost use Rattle.sql_meaning.specs.Names as spec;
 ghost use Rattle.sql_meaning.specs.Scope.{single};
 
 use cal_schema::ColumnDef;
 use cal_value::{Duplicate, List, NoMemory, SqlText};
 use itoa::Buffer;
-use sql_text::{Item, Items, Tree};
+use sql_tree::{Item, Items, Tree};
 use std::alloc::Global;
 
 fn made_bytes(alloc: Global, place: usize) -> Result<Vec<u8>, NoMemory>

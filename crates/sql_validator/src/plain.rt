@@ -5,7 +5,7 @@ ghost use Rattle.std.specs.Option.{is_none};
 ghost use Rattle.sql_meaning.specs.Refused as spec;
 ghost use Rattle.sql_meaning.specs.Scope.{hidden_by};
 
-use sql_text::{FromEntry, How, Item, Items, Select, Tree};
+use sql_tree::{FromEntry, How, Item, Items, Select, Tree};
 
 fn has_aggregate(tree: &Tree) -> bool
     ensures { result ≡ spec.has_aggregate tree.now }

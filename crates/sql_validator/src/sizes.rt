@@ -17,7 +17,7 @@ use cal_expr::{column_type, literal_type, negation_type, not_type, op_type};
 use cal_schema::ColumnDef;
 use cal_value::{Interval, Kind, NUMBER_LIMIT, Op, SqlText, SqlType, Value};
 use sql_meaning::Misfit;
-use sql_text::{Item, Items, Select, Tree};
+use sql_tree::{Item, Items, Select, Tree};
 
 /// The type of an expression, where it has one, and in it the misfit with the lowest place.
 #[derive(Clone, Copy, Debug)]

@@ -16,7 +16,7 @@ use crate::plain::only_entry;
 use crate::sizes::nearest_misfit;
 use cal_schema::{ColumnDef, Refusal, Schema, WrittenName};
 use cal_value::{Duplicate, List, NoMemory, SqlText};
-use sql_text::{ColumnName, Select, TableName};
+use sql_tree::{ColumnName, Select, TableName};
 use std::alloc::Global;
 
 fn unknown_name(alloc: Global, name: &ColumnName) -> Result<Refusal, NoMemory>

@@ -1,5 +1,5 @@
 use Rattle.std.proofs.Common.{◌≡◌, map, take}
-use Rattle.sql_text.specs.declared.select.Item.{Item}
+use Rattle.sql_tree.specs.declared.select.Item.{Item}
 use Rattle.sql_meaning.specs.Scope.{single}
 use Rattle.sql_to_rel.specs.Numbered.{numbered}
 use Rattle.session_lane.proofs.expressions.listed.Given as goal

@@ -1,5 +1,5 @@
 use Rattle.std.proofs.Common.{ap, sym, ◌∙◌}
-use Rattle.sql_text.specs.declared.tree.Tree.{Tree}
+use Rattle.sql_tree.specs.declared.tree.Tree.{Tree}
 use Rattle.sql_meaning.specs.Scope.{single}
 use Rattle.sql_meaning.specs.Sizes.{sized}
 use Rattle.sql_validator.specs.Walks.{weighed_of}

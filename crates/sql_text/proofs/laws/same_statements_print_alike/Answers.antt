@@ -1,7 +1,0 @@
-use Rattle.std.proofs.Common.{ap}
-use Rattle.sql_text.specs.Writing.{text_of}
-use Rattle.sql_text.proofs.Alike.{printed_alike}
-use Rattle.sql_text.proofs.laws.same_statements_print_alike.Goals as goal
-
-pub returns : goal.returns
-returns c a b h = ap text_of (printed_alike a b h)
