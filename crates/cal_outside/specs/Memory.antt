@@ -1,4 +1,4 @@
--- The files of a store in memory.
+-- What contracts see of a store and a sink in memory.
 use Rattle.std.specs.Prelude.{ℕ, List, [], ◌∷◌, if◌then◌else◌, Option, Some, None, encode_utf8_all}
 use Rattle.std.specs.Str.{bytes_eq}
 use Rattle.cal_outside.specs.declared.memory_store.MemFile.{MemFile}

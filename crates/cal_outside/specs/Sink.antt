@@ -1,21 +1,22 @@
--- What a write does to the told bytes of a sink, and to its count.
-use Rattle.std.specs.Prelude.{◌≡◌, ◌<◌, ℕ, ◌≤◌, List, ◌++◌, length, take, Option, option_map}
-use Rattle.cal_outside.specs.Faults.{Rose}
-use Rattle.cal_outside.specs.declared.sink.Took.{Took}
-use Rattle.cal_outside.specs.declared.sink.Took.TheVariants.{Bytes, Failed}
+-- What a sink tells.
+use Rattle.std.specs.Prelude.{◌≡◌, ◌<◌, ℕ, List, ◌++◌, length, take, Option, option_map}
+use Rattle.cal_outside.specs.Faults.{one_more}
 
--- told bytes grow by the text
-abbrev pub Adds : Option (List ℕ) → Option (List ℕ) → List ℕ → Type 0
-Adds old new text = new ≡ option_map (λ bytes. bytes ++ text) old
+-- The bytes so far, where they are told, and how often a write failed.
+pub record SinkState : Type 0 where
+  pub bytes : Option (List ℕ)
+  pub faults : ℕ
 
--- told bytes grow by a part of the text from its start, which isn't all of it
-abbrev pub AddsPrefix : Option (List ℕ) → Option (List ℕ) → List ℕ → Type 0
-AddsPrefix old new text = (n : ℕ) × (n < length text) × Adds old new (take n text)
+-- this text more
+abbrev pub with_text : SinkState → List ℕ → SinkState
+with_text sink text = record { bytes = option_map (λ bytes. bytes ++ text) sink.bytes; faults = sink.faults }
 
-abbrev pub TookAdds : Option (List ℕ) → Option (List ℕ) → List ℕ → Took → Type 0
-TookAdds old new piece (Bytes n) = (1 ≤ n) × (n ≤ length piece) × Adds old new (take n piece)
-TookAdds old new piece Failed = new ≡ old
+-- a failed write is counted
+abbrev pub with_failure : SinkState → SinkState
+with_failure sink = record { bytes = sink.bytes; faults = one_more sink.faults }
 
-pub record WriteCounts (took : Took) (faults faults' : ℕ) : Type 0 where
-  pub later : faults ≤ faults'
-  pub failed : took ≡ Failed → Rose faults faults'
+-- A part of the text from its start was added, which isn't all of it, and then a write failed.
+pub record IsCut (old new : SinkState) (text : List ℕ) : Type 0 where
+  pub written : ℕ
+  pub part : written < length text
+  pub state : new ≡ with_failure (with_text old (take written text))

@@ -1,25 +1,28 @@
--- What a read of a store says of the told files, and what it does to the counts.
-use Rattle.std.specs.Prelude.{◌≡◌, ◌≢◌, ◌⊎◌, ℕ, ◌+◌, ◌≤◌, List, length, take, drop, Option, None, IfSome, IsSome, IsSomeAnd, ⊤}
+-- What a store tells.
+use Rattle.std.specs.Prelude.{◌≡◌, ◌⊎◌, ℕ, ◌≤◌, List, Bool, false, Option, Some, None, IfSome, is_some}
 use Rattle.cal_outside.specs.Faults.{Rose}
-use Rattle.cal_outside.specs.declared.store.Got.{Got}
-use Rattle.cal_outside.specs.declared.store.Got.TheVariants.{Bytes, End, Failed}
 
--- Bytes and End agree with the told file, which is then there.
-abbrev pub GotAgrees : Option (List ℕ → Option (List ℕ)) → List ℕ → ℕ → Got → List ℕ → Type 0
-GotAgrees told name at (Bytes n) into = (1 ≤ n) × (n ≤ length into)
-    × IfSome told (λ files. IsSomeAnd (files name) (λ whole. (at + n ≤ length whole) × (take n into ≡ take n (drop at whole))))
-GotAgrees told name at End into = IfSome told (λ files. IsSomeAnd (files name) (λ whole. length whole ≤ at))
-GotAgrees told name at Failed into = ⊤
+-- The files by name, where they are told; how often a read failed, and how often it failed at a told file that is there;
+-- how often a read came to a file's end.
+pub record StoreState : Type 0 where
+  pub files : Option (List ℕ → Option (List ℕ))
+  pub faults : ℕ
+  pub broken : ℕ
+  pub ends : ℕ
 
--- `faults` never falls and has risen at Failed. Where the files are told, `broken` rises at each failed read of a file that is there,
--- and at no other read.
-pub record ReadCounts (told : Option (List ℕ → Option (List ℕ))) (name : List ℕ) (got : Got) (faults faults' broken broken' : ℕ) : Type 0 where
-  pub later : faults ≤ faults'
-  pub failed : got ≡ Failed → Rose faults faults'
-  pub broken_later : broken ≤ broken'
-  pub broken_rises : got ≡ Failed → IfSome told (λ files. IsSome (files name) → Rose broken broken')
-  pub broken_stays : (got ≢ Failed) ⊎ IfSome told (λ files. files name ≡ None) → IfSome told (λ _. broken' ≡ broken)
+-- This file is told, and it is there.
+abbrev pub has_file : Option (List ℕ → Option (List ℕ)) → List ℕ → Bool
+has_file None name = false
+has_file (Some files) name = is_some (files name)
 
--- Faults rose for a name.
-abbrev pub RoseFor : Option (List ℕ → Option (List ℕ)) → List ℕ → ℕ → ℕ → ℕ → ℕ → Type 0
-RoseFor told name faults faults' broken broken' = Rose faults faults' × IfSome told (λ files. (files name ≡ None) ⊎ Rose broken broken')
+-- No read changes files, and no count falls.
+pub record IsLater (old new : StoreState) : Type 0 where
+  pub same : new.files ≡ old.files
+  pub faults : old.faults ≤ new.faults
+  pub broken : old.broken ≤ new.broken
+  pub ends : old.ends ≤ new.ends
+
+-- A read of this name may have failed: faults rose, and where the file is told and there, those of such files did.
+abbrev pub RoseFor : StoreState → StoreState → List ℕ → Type 0
+RoseFor old new name =
+    Rose old.faults new.faults × IfSome old.files (λ files. (files name ≡ None) ⊎ Rose old.broken new.broken)

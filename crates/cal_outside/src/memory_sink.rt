@@ -1,5 +1,7 @@
 //! A sink in memory, for tests.
-ghost use Rattle.std.specs.Prelude.{◌≡◌, ◌≤◌, [], Some};
+ghost use Rattle.std.specs.Prelude.{◌≡◌, ◌⊎◌, ◌<◌, ◌≤◌, [], Some, Contains, length, min};
+ghost use Rattle.cal_outside.specs.Faults.{one_more};
+ghost use Rattle.cal_outside.specs.Writes.{TookPart, after_write};
 
 use crate::{Sink, Took};
 use cal_value::List;
@@ -18,11 +20,15 @@ pub struct MemSink {
 }
 
 impl MemSink {
+    ghost use Rattle.cal_outside.specs.Fakes.{writes_of, failing_writes, most_of};
+
     /// An empty sink. Takes no memory.
     pub fn new(alloc: Global, most: u64, failing: List<u64>) -> MemSink
         requires { 1 ≤ most }
-        ensures bytes { ⟦<MemSink as Sink>⟧.bytes result ≡ Some [] }
-        ensures faults { ⟦<MemSink as Sink>⟧.faults result ≡ 0 }
+        ensures state { ⟦<MemSink as Sink>⟧.state result ≡ record { bytes = Some []; faults = 0 } }
+        ensures writes { writes_of result ≡ 0 }
+        ensures failing { failing_writes result ≡ failing }
+        ensures most { most_of result ≡ most }
     {
         MemSink {
             most,
@@ -35,25 +41,39 @@ impl MemSink {
 
     /// The bytes so far.
     pub fn bytes(&self) -> &List<u8>
-        ensures { Some result.now ≡ ⟦<MemSink as Sink>⟧.bytes self.now }
+        ensures { Some result.now ≡ (⟦<MemSink as Sink>⟧.state self.now).bytes }
     {
         &self.bytes
     }
 
     /// How many writes failed.
     pub fn fault_count(&self) -> u64
-        ensures { result ≡ ⟦<MemSink as Sink>⟧.faults self.now }
+        ensures { result ≡ (⟦<MemSink as Sink>⟧.state self.now).faults }
     {
         self.faults
     }
 }
 
 impl Sink for MemSink {
-    ghost bytes = { λ k. Some k.bytes };
+    ghost use Rattle.cal_outside.specs.Fakes.{writes_of, failing_writes, most_of};
 
-    ghost faults = { λ k. k.faults };
+    ghost state = { λ k. record { bytes = Some k.bytes; faults = k.faults } };
 
-    fn write(&mut self, piece: &[u8]) -> Took {
+    fn write(&mut self, piece: &[u8]) -> Took
+        requires { 0 < length piece.now }
+        ensures later { (⟦<MemSink as Sink>⟧.state self.old).faults
+            ≤ (⟦<MemSink as Sink>⟧.state self.new).faults }
+        ensures part { TookPart piece.now result }
+        ensures counts { ⟦<MemSink as Sink>⟧.state self.new
+            ≡ after_write (⟦<MemSink as Sink>⟧.state self.old) piece.now result }
+        ensures failing { Contains (failing_writes self.old) (one_more (writes_of self.old))
+            → result ≡ Took.Failed }
+        ensures takes { (result ≡ Took.Failed)
+            ⊎ (result ≡ Took.Bytes (min (most_of self.old) (length piece.now))) }
+        ensures writes { writes_of self.new ≡ one_more (writes_of self.old) }
+        ensures same { (failing_writes self.new ≡ failing_writes self.old)
+            × (most_of self.new ≡ most_of self.old) }
+    {
         self.writes = self.writes.saturating_add(1);
         let count = self.most.min(piece.len() as u64);
         if self.failing.as_slice().contains(&self.writes)

@@ -1,7 +1,10 @@
 //! Files in memory, for tests.
-ghost use Rattle.std.specs.Prelude.{◌≡◌, ◌+◌, ◌^◌, ◌<◌, ◌≤◌, length, take, drop, Some};
+ghost use Rattle.std.specs.Prelude.{◌≡◌, ◌↔◌, ◌+◌, ◌<◌, ◌≤◌, length, take, drop, Some};
 ghost use Rattle.std.specs.Option.{option_copied};
+ghost use Rattle.cal_outside.specs.Faults.{one_more};
 ghost use Rattle.cal_outside.specs.Memory.{file_of};
+ghost use Rattle.cal_outside.specs.Reads.{GotAgrees, after_read};
+ghost use Rattle.cal_outside.specs.Store.{IsLater};
 
 use crate::{Got, Store, Word};
 use cal_value::List;
@@ -21,14 +24,18 @@ pub struct MemStore {
     reads: u64,
     faults: u64,
     broken: u64,
+    ends: u64,
 }
 
 impl MemStore {
+    ghost use Rattle.cal_outside.specs.Fakes.{reads_of, failing_reads};
+
     /// A store of these files; of two files of one name the first one counts. Takes no memory.
     pub fn new(files: List<MemFile>, failing: List<u64>) -> MemStore
-        ensures files { ⟦<MemStore as Store>⟧.files result ≡ Some (file_of files) }
-        ensures faults { ⟦<MemStore as Store>⟧.faults result ≡ 0 }
-        ensures broken { ⟦<MemStore as Store>⟧.broken result ≡ 0 }
+        ensures state { ⟦<MemStore as Store>⟧.state result
+            ≡ record { files = Some (file_of files); faults = 0; broken = 0; ends = 0 } }
+        ensures reads { reads_of result ≡ 0 }
+        ensures failing { failing_reads result ≡ failing }
     {
         MemStore {
             files,
@@ -36,6 +43,7 @@ impl MemStore {
             reads: 0,
             faults: 0,
             broken: 0,
+            ends: 0,
         }
     }
 }
@@ -68,13 +76,26 @@ fn copy_part(bytes: &[u8], at: usize, into: &mut [u8]) -> usize
 }
 
 impl Store for MemStore {
-    ghost files = { λ s. Some (file_of s.files) };
+    ghost use Rattle.cal_outside.specs.Fakes.{reads_of, failing_reads, ReadFails};
 
-    ghost faults = { λ s. s.faults };
+    ghost state = { λ s. record {
+      files = Some (file_of s.files);
+      faults = s.faults;
+      broken = s.broken;
+      ends = s.ends;
+    } };
 
-    ghost broken = { λ s. s.broken };
-
-    fn read(&mut self, name: &str, at: u64, into: &mut [u8]) -> Got {
+    fn read(&mut self, name: &str, at: u64, into: &mut [u8]) -> Got
+        requires { 0 < length into.old }
+        ensures later { IsLater (⟦<MemStore as Store>⟧.state self.old)
+            (⟦<MemStore as Store>⟧.state self.new) }
+        ensures agrees { GotAgrees (⟦<MemStore as Store>⟧.state self.old) name.now at result into.new }
+        ensures counts { ⟦<MemStore as Store>⟧.state self.new
+            ≡ after_read (⟦<MemStore as Store>⟧.state self.old) name.now result }
+        ensures fails { (result ≡ Got.Failed) ↔ ReadFails self.old name.now }
+        ensures reads { reads_of self.new ≡ one_more (reads_of self.old) }
+        ensures same { failing_reads self.new ≡ failing_reads self.old }
+    {
         self.reads = self.reads.saturating_add(1);
         let fails = self.failing.as_slice().contains(&self.reads);
         let Some(bytes) = find(self.files.as_slice(), name) else {
@@ -87,6 +108,7 @@ impl Store for MemStore {
             return Got::Failed;
         }
         if at >= bytes.len() as u64 {
+            self.ends = self.ends.saturating_add(1);
             return Got::End;
         }
         Got::Bytes(copy_part(bytes, at as usize, into) as u64)

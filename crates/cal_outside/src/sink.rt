@@ -1,6 +1,6 @@
-ghost use Rattle.std.specs.Prelude.{◌≡◌, ◌<◌, ◌≤◌, List, ℕ, length, Option, OnOk, OnErr};
-ghost use Rattle.cal_outside.specs.Faults.{Rose};
-ghost use Rattle.cal_outside.specs.Sink.{TookAdds, WriteCounts, Adds, AddsPrefix};
+ghost use Rattle.std.specs.Prelude.{◌≡◌, ◌<◌, ◌≤◌, length, OnOk, OnErr};
+ghost use Rattle.cal_outside.specs.Sink.{SinkState, with_text, IsCut};
+ghost use Rattle.cal_outside.specs.Writes.{TookPart, after_write};
 
 use thiserror::Error;
 
@@ -18,23 +18,19 @@ pub struct SinkFault;
 
 /// Where text is written.
 pub trait Sink {
-    /// The bytes so far, where they are told.
-    ghost bytes: { Self → Option (List ℕ) };
-
-    /// How often it has failed.
-    ghost faults: { Self → ℕ };
+    /// The bytes so far, where they are told, and the count of failed writes.
+    ghost state: { Self → SinkState };
 
     /// Takes bytes from the start of `piece`, at least one, or fails and takes none.
     fn write(&mut self, piece: &[u8]) -> Took
         requires { 0 < length piece.now }
-        ensures adds { TookAdds (bytes self.old) (bytes self.new) piece.now result }
-        ensures counts { WriteCounts result (faults self.old) (faults self.new) };
+        ensures later { (state self.old).faults ≤ (state self.new).faults }
+        ensures part { TookPart piece.now result }
+        ensures counts { state self.new ≡ after_write (state self.old) piece.now result };
 }
 
 impl<K: Sink> Sink for &mut K {
-    ghost bytes = { λ k. K.bytes k.now };
-
-    ghost faults = { λ k. K.faults k.now };
+    ghost state = { λ k. K.state k.now };
 
     fn write(&mut self, piece: &[u8]) -> Took {
         Sink::write(&mut **self, piece)
@@ -44,10 +40,9 @@ impl<K: Sink> Sink for &mut K {
 /// Writes the whole text. At a fault, what was written is a part of it from its start. Takes no memory.
 #[tactic(auto, using(crate::proofs::Added::adds_part))]
 pub fn write_all_text<K: Sink>(out: &mut K, text: &[u8]) -> Result<(), SinkFault>
-    ensures later { K.faults out.old ≤ K.faults out.new }
-    ensures ok { OnOk result (Adds (K.bytes out.old) (K.bytes out.new) text.now) }
-    ensures fault { OnErr result (Rose (K.faults out.old) (K.faults out.new)) }
-    ensures prefix { OnErr result (AddsPrefix (K.bytes out.old) (K.bytes out.new) text.now) }
+    ensures later { (K.state out.old).faults ≤ (K.state out.new).faults }
+    ensures ok { OnOk result (K.state out.new ≡ with_text (K.state out.old) text.now) }
+    ensures fault { OnErr result (IsCut (K.state out.old) (K.state out.new) text.now) }
 {
     let mut done = 0;
     while done < text.len() {

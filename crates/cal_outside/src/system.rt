@@ -12,14 +12,20 @@ use std::rt::Files;
 pub struct FileStore<R> {
     rt: R,
     faults: u64,
+    ends: u64,
 }
 
 impl<R: Files> FileStore<R> {
     /// The files of this runtime.
     pub fn new(rt: R) -> FileStore<R>
-        ensures { ⟦<FileStore<R> as Store>⟧.faults result ≡ 0 }
+        ensures { ⟦<FileStore<R> as Store>⟧.state result
+            ≡ record { files = None; faults = 0; broken = 0; ends = 0 } }
     {
-        FileStore { rt, faults: 0 }
+        FileStore {
+            rt,
+            faults: 0,
+            ends: 0,
+        }
     }
 }
 
@@ -32,15 +38,14 @@ fn read_part<R: Files>(rt: &R, name: &str, at: u64, into: &mut [u8]) -> io::Resu
 }
 
 impl<R: Files> Store for FileStore<R> {
-    ghost files = { λ s. None };
-
-    ghost faults = { λ s. s.faults };
-
-    ghost broken = { λ s. 0 };
+    ghost state = { λ s. record { files = None; faults = s.faults; broken = 0; ends = s.ends } };
 
     fn read(&mut self, name: &str, at: u64, into: &mut [u8]) -> Got {
         match read_part(&self.rt, name, at, into) {
-            Ok(0) => Got::End,
+            Ok(0) => {
+                self.ends = self.ends.saturating_add(1);
+                Got::End
+            }
             Ok(count) => Got::Bytes(count as u64),
             Err(_) => {
                 self.faults = self.faults.saturating_add(1);
@@ -64,23 +69,21 @@ pub struct StdSink<P> {
 impl<P: Print> StdSink<P> {
     /// The standard output of this runtime.
     pub fn new(to: P) -> StdSink<P>
-        ensures { ⟦<StdSink<P> as Sink>⟧.faults result ≡ 0 }
+        ensures { ⟦<StdSink<P> as Sink>⟧.state result ≡ record { bytes = None; faults = 0 } }
     {
         StdSink { to, faults: 0 }
     }
 
     /// How many writes failed.
     pub fn fault_count(&self) -> u64
-        ensures { result ≡ ⟦<StdSink<P> as Sink>⟧.faults self.now }
+        ensures { result ≡ (⟦<StdSink<P> as Sink>⟧.state self.now).faults }
     {
         self.faults
     }
 }
 
 impl<P: Print> Sink for StdSink<P> {
-    ghost bytes = { λ k. None };
-
-    ghost faults = { λ k. k.faults };
+    ghost state = { λ k. record { bytes = None; faults = k.faults } };
 
     fn write(&mut self, piece: &[u8]) -> Took {
         match self.to.write_some(piece) {

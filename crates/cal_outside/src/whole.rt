@@ -1,4 +1,4 @@
-ghost use Rattle.std.specs.Prelude.{◌≡◌, ◌≤◌};
+ghost use Rattle.cal_outside.specs.Store.{IsLater};
 ghost use Rattle.cal_outside.specs.Whole.{ReadAllSays};
 
 use crate::{Got, Store};
@@ -24,11 +24,8 @@ pub fn read_all<S: Store>(
     name: &str,
     limit: u64,
 ) -> Result<List<u8>, ReadAllFault>
-    ensures same { S.files store.new ≡ S.files store.old }
-    ensures later { S.faults store.old ≤ S.faults store.new }
-    ensures broken_later { S.broken store.old ≤ S.broken store.new }
-    ensures says { ReadAllSays (S.files store.old) name.now limit
-        (S.faults store.old) (S.faults store.new) (S.broken store.old) (S.broken store.new) result }
+    ensures later { IsLater (S.state store.old) (S.state store.new) }
+    ensures says { ReadAllSays (S.state store.old) (S.state store.new) name.now limit result }
 {
     let mut bytes = Vec::new(alloc);
     let mut buffer = [0u8; 65536];

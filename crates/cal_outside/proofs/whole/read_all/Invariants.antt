@@ -5,10 +5,8 @@ use Rattle.cal_outside.proofs.whole.read_all.Given as goal
 abbrev pub invariant-turns : goal.invariant-turns
 invariant-turns g l = record {
   within : length l.bytes.items ≤ l.limit;
-  same : g.S.Store.files l.store ≡ g.S.Store.files l.initial.store;
-  later : g.S.Store.faults l.initial.store ≤ g.S.Store.faults l.store;
-  broken_later : g.S.Store.broken l.initial.store ≤ g.S.Store.broken l.store;
-  start : IsStart (g.S.Store.files l.initial.store) l.name l.bytes.items;
+  same : g.S.Store.state l.store ≡ g.S.Store.state l.initial.store;
+  start : IsStart (g.S.Store.state l.initial.store) l.name l.bytes.items;
 }
 
 abbrev pub decreases-turns : goal.decreases-turns
