@@ -21,7 +21,8 @@ impl<'a, M: Machine> Held<'a, M> {
           prefix = (holding self.new).pass.prefix;
           commits = (holding self.old).pass.commits ++ result ∷ [];
         } }
-        ensures committed { (e : M.Event) → (holding self.new).pass.prefix ≡ (holding self.old).pass.prefix ++ e ∷ []
+        ensures committed { (e : M.Event)
+            → (holding self.new).pass.prefix ≡ (holding self.old).pass.prefix ++ e ∷ []
             → (holding self.new).committed ≡ Some e }
         ensures machine { (holding self.new).machine ≡ (holding self.old).machine }
         ensures settled { IsSettled M.history M.base (holding self.new) }
@@ -38,7 +39,8 @@ impl<'a, M: Machine> Held<'a, M> {
         requires held { IsHeld M.actor self }
         requires settled { IsSettled M.history M.base (holding self) }
         ensures pass { result ≡ (holding self.entry).pass }
-        ensures stays { (holding self.entry).committed ≡ None → Stays M.actor (holding self.entry).entered result }
+        ensures stays { (holding self.entry).committed ≡ None
+            → Stays M.actor (holding self.entry).entered result }
         ensures adds { (e : M.Event) → (holding self.entry).committed ≡ Some e
             → Adds M.actor (holding self.entry).entered e (length result.prefix) result }
     {

@@ -13,7 +13,9 @@ impl<'a, M: Machine> Held<'a, M> {
     /// The machine in hand. When the loan ends, the turn has what was written through it.
     pub fn machine(&mut self) -> &mut M
         requires held { IsHeld M.actor self.old }
-        ensures* writes_back { sem 𝓛 (Lends (the_row (record { mir = named 1; lft = [] }) M.row M.Event.row M.Base.row M.Machine) M.row self.entry result (held_with self.old)) }
+        ensures* writes_back { sem 𝓛 (Lends
+            (the_row (record { mir = named 1; lft = [] }) M.row M.Event.row M.Base.row M.Machine)
+            M.row self.entry result (held_with self.old)) }
         ensures value { (holding self.old).machine ≡ Some result.now }
     {
         let turn = self.turn;

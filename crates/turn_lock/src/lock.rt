@@ -23,7 +23,8 @@ impl<M: Machine> Model for Turn<M> {
 
     ghost view = { λ turn. record { id = turn.table.shared.table_id; seats = turn.seats } };
 
-    ghost invariant = { λ turn. IsLaidOut turn.table.shared.table_id turn.table.shared.key.seats turn.seats };
+    ghost invariant = { λ turn.
+        IsLaidOut turn.table.shared.table_id turn.table.shared.key.seats turn.seats };
 }
 
 /// The right to enter a lock, and what its holder knows. Contracts see a record of the lock that it is of, the base, the

@@ -36,8 +36,10 @@ impl<M: Machine> Turn<M> {
         requires picked { shares ≡ C.shares }
         requires seat { Rests self.now.id seat.old }
         requires shares { (1 ≤ shares) × (shares < share_count seat.old.me.0) }
-        ensures kept { IsSame seat.old seat.new × (seat.new.me ≡ (lower_view shares seat.old.me.0, [])) }
-        ensures given { (result.table_id ≡ self.now.id) × (result.me ≡ (upper_view shares seat.old.me.0, [])) }
+        ensures kept { IsSame seat.old seat.new
+            × (seat.new.me ≡ (lower_view shares seat.old.me.0, [])) }
+        ensures given { (result.table_id ≡ self.now.id)
+            × (result.me ≡ (upper_view shares seat.old.me.0, [])) }
     {
         self.table.shared.split_seat::<Part<C>>(seat)
     }
@@ -47,7 +49,10 @@ impl<M: Machine> Turn<M> {
         requires lock { pass.lock ≡ self.now.id }
         requires shares { (1 ≤ shares) × (shares < length pass.actors) }
         ensures first { result.0 ≡ record pass { actors = lower shares pass.actors } }
-        ensures second { result.1 ≡ record pass { actors = upper shares pass.actors; commits = [] } }
+        ensures second { result.1 ≡ record pass {
+          actors = upper shares pass.actors;
+          commits = [];
+        } }
         ensures lower { length result.0.actors + shares ≡ length pass.actors }
         ensures upper { length result.1.actors ≡ shares }
         ensures whole { result.0.actors ++ result.1.actors ≡ pass.actors }
@@ -77,11 +82,14 @@ impl<M: Machine> Turn<M> {
     )
         requires seats { Rests self.now.id seat.old × Rests self.now.id other }
         ensures same { IsSame seat.old seat.new }
-        ensures joint { seat.new.me ≡ (record (joint_view seat.old.me.0 other.me.0) { stage = Idle }, []) }
-        ensures first { GoesOn M.actor seat.old.me.0.actors seat.old.me.0.prefix seat.new.me.0.prefix }
+        ensures joint { seat.new.me
+            ≡ (record (joint_view seat.old.me.0 other.me.0) { stage = Idle }, []) }
+        ensures first { GoesOn M.actor seat.old.me.0.actors
+            seat.old.me.0.prefix seat.new.me.0.prefix }
         ensures second { GoesOn M.actor other.me.0.actors other.me.0.prefix seat.new.me.0.prefix }
         ensures rise { IsStrictlyIncreasing seat.new.me.0.actors }
-        ensures shares { share_count seat.new.me.0 ≡ share_count seat.old.me.0 + share_count other.me.0 }
+        ensures shares { share_count seat.new.me.0
+            ≡ share_count seat.old.me.0 + share_count other.me.0 }
         ensures few { share_count seat.new.me.0 < 2 ^ 32 }
     {
         self.table.shared.join_seat::<Both>(seat, other);

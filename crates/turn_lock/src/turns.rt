@@ -29,7 +29,8 @@ impl<M: Machine> Turn<M> {
         ensures lock { IfOk result (λ r. r.1.lock ≡ r.0.id) }
         ensures base { IfOk result (λ r. r.1.base ≡ M.base machine) }
         ensures prefix { IfOk result (λ r. r.1.prefix ≡ M.history machine) }
-        ensures commits { IfOk result (λ r. r.1.commits ≡ range_with_len 1 (length (M.history machine))) }
+        ensures commits { IfOk result (λ r.
+            r.1.commits ≡ range_with_len 1 (length (M.history machine))) }
         ensures actors { IfOk result (λ r. r.1.actors ≡ range_with_len 0 seats) }
     {
         let start = Start {
@@ -109,7 +110,8 @@ impl<M: Machine> Turn<M> {
         requires all { length pass.actors ≡ self.seats }
         ensures base { M.base result ≡ pass.base }
         ensures history { M.history result ≡ pass.prefix }
-        ensures commits { IsPermutation pass.commits (range_with_len 1 (length (M.history result))) }
+        ensures commits { IsPermutation pass.commits
+            (range_with_len 1 (length (M.history result))) }
     {
         let Turn { table, seats: _ } = self;
         let Pass { seat, shares: _ } = pass;

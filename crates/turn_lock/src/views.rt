@@ -53,7 +53,9 @@ pub struct Law<M> {
 impl<M: Machine> TableRule<M, View<M::Event, M::Base>, Start<M>> for Law<M> {
     ghost use Rattle.turn_lock.specs.Rule.{Ruled, first_view};
 
-    ghost holds = { λ start. Ruled M.history M.actor M.base start.seats (M.base start.machine.value) };
+    ghost holds = { λ start.
+        Ruled M.history M.actor M.base start.seats (M.base start.machine.value) };
 
-    ghost first = { λ start. first_view start.seats (M.history start.machine.value) (M.base start.machine.value) };
+    ghost first = { λ start.
+        first_view start.seats (M.history start.machine.value) (M.base start.machine.value) };
 }

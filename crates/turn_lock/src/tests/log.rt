@@ -30,7 +30,8 @@ impl Model for Log {
 
     ghost view = { λ log. (log.name, log.entries.items) };
 
-    ghost invariant = { λ log. log.sum ≡ sum_by (λ (entry : Entry). entry.number) log.entries.items % 2 ^ 64 };
+    ghost invariant = { λ log.
+        log.sum ≡ sum_by (λ (entry : Entry). entry.number) log.entries.items % 2 ^ 64 };
 }
 
 impl Machine for Log {
@@ -61,7 +62,9 @@ impl Log {
     }
 
     pub(super) fn add(&mut self, entry: Entry) -> Result<(), NoMemory>
-        ensures { MatchResult result (λ _. self.new ≡ (self.old.0, self.old.1 ++ entry ∷ [])) (λ _. self.new ≡ self.old) }
+        ensures { MatchResult result
+            (λ _. self.new ≡ (self.old.0, self.old.1 ++ entry ∷ []))
+            (λ _. self.new ≡ self.old) }
     {
         self.entries.push(entry)?;
         self.sum = self.sum.wrapping_add(entry.number);
