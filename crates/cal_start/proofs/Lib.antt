@@ -1,6 +1,5 @@
 pub mod EndLemmas
 pub mod HeaderLemmas
-pub mod NameLemmas
 pub mod ReadLemmas
 pub mod SourceLemmas
 pub mod ZipLemmas

@@ -1,15 +1,14 @@
 -- What a run does after the files that it has read.
-use Rattle.std.specs.Prelude.{◌≡◌, ◌≢◌, ◌<◌, ◌≤◌, ℕ, ◌-◌, min, List, [], ◌∷◌, ◌++◌, length, Option, Some, None, IfSome, IsSomeAnd, Result, Ok, Err, encode_utf8_all, ⊤}
-use Rattle.cal_outside.specs.Store.{RoseFor}
+use Rattle.std.specs.Prelude.{ℕ, ◌-◌, min, List, [], ◌∷◌, ◌++◌, length, Option, Some, None, Result, Ok, Err, encode_utf8_all}
 use Rattle.cal_schema.specs.declared.column.ColumnDef.{ColumnDef}
 use Rattle.cal_schema.specs.declared.database.Db.{Db}
 use Rattle.cal_schema.specs.declared.schema.Schema.{Schema}
 use Rattle.cal_schema.specs.declared.table.TableDef.{TableDef}
+use Rattle.cal_value.specs.declared.limits.TheConstants.{FILE_LIMIT, FILES_LIMIT, MODEL_LIMIT}
 use Rattle.cal_value.specs.declared.value.Value.{Value}
 use Rattle.csv_tables.specs.Header.{header_of}
 use Rattle.csv_tables.specs.Table.{table_of}
 use Rattle.csv_tables.specs.declared.fault.CsvFault.{CsvFault}
-use Rattle.csv_tables.specs.declared.fault.CsvFault.TheVariants as csv
 use Rattle.model_json.specs.ModelOf.{read_model, resolve}
 use Rattle.model_json.specs.Sources.{sources_of}
 use Rattle.model_json.specs.declared.fault.ModelFault.{ModelFault}
@@ -17,16 +16,12 @@ use Rattle.model_json.specs.declared.fault.ModelFault.TheVariants as model
 use Rattle.model_json.specs.declared.model.Model.{Model}
 use Rattle.model_json.specs.declared.source.TableSource.{TableSource}
 use Rattle.serde_json.specs.Data.{Data}
-use Rattle.cal_start.specs.declared.fault.FileRead.{FileRead}
+use Rattle.cal_start.specs.declared.files.FileRead.{FileRead}
 use Rattle.cal_start.specs.declared.fault.StartFault.{StartFault}
-use Rattle.cal_start.specs.declared.fault.StartFault.TheVariants.{NotJson, BadModel, Table, TooBig, ReadFault, NoMemory}
+use Rattle.cal_start.specs.declared.fault.StartFault.TheVariants.{NotJson, BadModel, Table, TooBig, NoMemory}
 use Rattle.cal_start.specs.declared.fault.TableFault.TheVariants as table
 use Rattle.cal_start.specs.declared.fault.TableName.{TableName}
 use Rattle.cal_start.specs.declared.run.Started.{Started}
-
--- files by name, where they are told
-abbrev pub ToldFiles : Type 0
-ToldFiles = Option (List ℕ → Option (List ℕ))
 
 -- for each table the columns of its file's header, where it has a file
 abbrev pub Headers : Type 0
@@ -34,16 +29,6 @@ Headers = List (Option (List ColumnDef))
 
 abbrev pub Rows : Type 0
 Rows = List (List Value)
-
--- the most bytes of a model, of the file of a table, and of the files of all tables
-abbrev pub most_model : ℕ
-most_model = 16777216
-
-abbrev pub most_table : ℕ
-most_table = 8388608
-
-abbrev pub most_tables : ℕ
-most_tables = 33554432
 
 -- It reads the file of this name, which is the fault where it has more bytes than the number; it stops; it has its tables.
 pub data Next : Type 0 where
@@ -73,7 +58,7 @@ source_name t = record { schema = t.schema; name = t.name }
 
 -- the file of a table, where so many bytes are left for the files of tables
 abbrev pub wants_file : TableName → List ℕ → ℕ → Next
-wants_file t file left = wants (encode_utf8_all file) (min most_table left) (Table t (table.TooBig (min most_table left)))
+wants_file t file left = wants (encode_utf8_all file) (min FILE_LIMIT left) (Table t (table.TooBig (min FILE_LIMIT left)))
 
 abbrev pub told_header : TableName → Result (List ColumnDef) CsvFault → Result (Option (List ColumnDef)) Next
 told_header t (Ok columns) = Ok (Some columns)
@@ -101,7 +86,7 @@ headers_after (t ∷ ts) earlier left files =
     >>= λ header. headers_after ts (earlier ++ header ∷ []) (left_after t.file left files) (files_after t.file files)
 
 abbrev pub headers_in : Data → List FileRead → Result Headers Next
-headers_in d files = headers_after (sources_of d) [] most_tables files
+headers_in d files = headers_after (sources_of d) [] FILES_LIMIT files
 
 -- ---- the rows of the tables
 
@@ -161,7 +146,7 @@ after_model (Err fault) files = stops (model_stop fault)
 -- The model; the file of each table that has one, in the order of the tables, with its header; names and keys; the rows of
 -- each table.
 abbrev pub next_of : List ℕ → List FileRead → Next
-next_of name [] = wants (encode_utf8_all name) most_model (TooBig most_model)
+next_of name [] = wants (encode_utf8_all name) MODEL_LIMIT (TooBig MODEL_LIMIT)
 next_of name (m ∷ files) = after_model (read_model m.bytes) files
 
 abbrev pub given : Next → Option (Result Started StartFault)
@@ -172,50 +157,3 @@ given (done schema db) = Some (Ok (record { schema = schema; db = db }))
 -- the tables that the files give, or their first fault, where they are all of them
 abbrev pub initial_of : List ℕ → List FileRead → Option (Result Started StartFault)
 initial_of name files = given (next_of name files)
-
--- ---- the files that were read
-
--- This file is what the run read next, whole.
-pub record IsNext (told : ToldFiles) (next : Next) (file : FileRead) : Type 0 where
-  pub limit : ℕ
-  pub longer : StartFault
-  pub wanted : next ≡ wants (encode_utf8_all file.name) limit longer
-  pub short : length file.bytes ≤ limit
-  pub is_told : IfSome told (λ file_of. file_of (encode_utf8_all file.name) ≡ Some file.bytes)
-
--- P of each file and of those before it
-abbrev pub EachAfter : (List FileRead → FileRead → Type 0) → List FileRead → List FileRead → Type 0
-EachAfter P before [] = ⊤
-EachAfter P before (file ∷ files) = P before file × EachAfter P (before ++ file ∷ []) files
-
--- each file was read whole after those before it
-abbrev pub AreRead : ToldFiles → (List FileRead → Next) → List FileRead → Type 0
-AreRead told next files = EachAfter (λ before file. IsNext told (next before) file) [] files
-
--- ---- the cause of each end
-
--- The file that is read next has this fault: it is longer than its limit.
-pub record IsLonger (told : ToldFiles) (next : Next) (fault : StartFault) : Type 0 where
-  pub name : List ℕ
-  pub limit : ℕ
-  pub wanted : next ≡ wants name limit fault
-  pub longer : IfSome told (λ file_of. IsSomeAnd (file_of name) (λ whole. limit < length whole))
-
--- Faults rose for the file that is read next.
-pub record IsBroken (told : ToldFiles) (next : Next) (f f' b b' : ℕ) : Type 0 where
-  pub name : List ℕ
-  pub limit : ℕ
-  pub longer : StartFault
-  pub wanted : next ≡ wants name limit longer
-  pub rose : RoseFor told name f f' b b'
-
--- f and b are the store's counts before, f' and b' after
-abbrev pub EndCause : ToldFiles → ℕ → ℕ → ℕ → ℕ → Next → Result Started StartFault → Type 0
-EndCause told f f' b b' next (Ok started) = next ≡ done started.schema started.db
-EndCause told f f' b b' next (Err NotJson) = next ≡ stops NotJson
-EndCause told f f' b b' next (Err (BadModel path cause)) = next ≡ stops (BadModel path cause)
-EndCause told f f' b b' next (Err (Table t (table.Csv fault))) = (next ≡ stops (Table t (table.Csv fault))) × (fault ≢ csv.NoMemory)
-EndCause told f f' b b' next (Err (Table t (table.TooBig limit))) = IsLonger told next (Table t (table.TooBig limit))
-EndCause told f f' b b' next (Err (TooBig limit)) = IsLonger told next (TooBig limit)
-EndCause told f f' b b' next (Err ReadFault) = IsBroken told next f f' b b'
-EndCause told f f' b b' next (Err NoMemory) = ⊤

@@ -1,6 +1,7 @@
--- What the parts of a start do.
+-- Words of private contracts: what the parts of a start do.
 use Rattle.std.specs.Prelude.{◌≡◌, ◌≢◌, ◌⊎◌, ◌<◌, ◌≤◌, ℕ, ◌-◌, min, List, [], ◌∷◌, ◌++◌, length, map, Option, Some, None, IfSome, IsSomeAnd, encode_utf8_all, Result, Ok, Err, ⊤}
-use Rattle.cal_outside.specs.Store.{RoseFor}
+use Rattle.std.specs.Str.{chars}
+use Rattle.cal_outside.specs.Store.{StoreState, RoseFor}
 use Rattle.csv_tables.specs.Header.{header_of}
 use Rattle.csv_tables.specs.declared.fault.CsvFault.{CsvFault}
 use Rattle.csv_tables.specs.declared.fault.CsvFault.TheVariants as csv
@@ -9,8 +10,10 @@ use Rattle.model_json.specs.Sources.{sources_of}
 use Rattle.model_json.specs.declared.model.ModelDoc.{ModelDoc}
 use Rattle.serde_json.specs.Data.{Data}
 use Rattle.serde_json.specs.View.{view}
-use Rattle.cal_start.specs.Next.{ToldFiles, Headers, most_table, told_header, headers_in, next_in, next_of, AreRead, EndCause}
-use Rattle.cal_start.specs.declared.fault.FileRead.{FileRead}
+use Rattle.cal_value.specs.declared.limits.TheConstants.{FILE_LIMIT}
+use Rattle.cal_start.specs.Ends.{AreRead, EndCause}
+use Rattle.cal_start.specs.Next.{Headers, told_header, headers_in, next_in, next_of}
+use Rattle.cal_start.specs.declared.files.FileRead.{FileRead}
 use Rattle.cal_start.specs.declared.fault.StartFault.{StartFault}
 use Rattle.cal_start.specs.declared.fault.StartFault.TheVariants.{Table, ReadFault, NoMemory}
 use Rattle.cal_start.specs.declared.fault.TableFault.TheVariants as table
@@ -27,26 +30,27 @@ csv_stop t (csv.TableFull limit) = Table t (table.Csv (csv.TableFull limit))
 -- ---- the header of one table
 
 -- One more file was read, and it has P.
-pub record OneRead (told : ToldFiles) (file : List ℕ) (left : ℕ) (old new : List FileRead) (P : List ℕ → Type 0) : Type 0 where
+pub record OneRead (store : StoreState) (file : List ℕ) (left : ℕ) (old new : List FileRead) (P : List ℕ → Type 0) : Type 0 where
   pub name : List ℕ
   pub bytes : List ℕ
   pub kept : new ≡ old ++ record { name = name; bytes = bytes } ∷ []
+  pub is_text : chars (encode_utf8_all name) ≡ name
   pub named : encode_utf8_all name ≡ encode_utf8_all file
-  pub short : length bytes ≤ min most_table left
-  pub is_told : IfSome told (λ file_of. file_of (encode_utf8_all name) ≡ Some bytes)
+  pub short : length bytes ≤ min FILE_LIMIT left
+  pub is_told : IfSome store.files (λ file_of. file_of (encode_utf8_all name) ≡ Some bytes)
   pub has : P bytes
 
-abbrev pub FileSays : ToldFiles → ℕ → ℕ → ℕ → ℕ → TableName → List ℕ → ℕ → List FileRead → List FileRead → Result NextHeader StartFault → Type 0
-FileSays told f f' b b' t file left old new (Ok next) =
-    OneRead told file left old new (λ bytes. (told_header t (header_of bytes) ≡ Ok next.header) × (next.left ≡ left - length bytes))
-FileSays told f f' b b' t file left old new (Err (Table t' (table.Csv fault))) =
-    (t' ≡ t) × (fault ≢ csv.NoMemory) × OneRead told file left old new (λ bytes. header_of bytes ≡ Err fault)
-FileSays told f f' b b' t file left old new (Err (Table t' (table.TooBig limit))) =
-    (t' ≡ t) × (new ≡ old) × (limit ≡ min most_table left)
-    × IfSome told (λ file_of. IsSomeAnd (file_of (encode_utf8_all file)) (λ whole. limit < length whole))
-FileSays told f f' b b' t file left old new (Err ReadFault) = (new ≡ old) × RoseFor told (encode_utf8_all file) f f' b b'
-FileSays told f f' b b' t file left old new (Err NoMemory) = (new ≡ old) ⊎ OneRead told file left old new (λ bytes. ⊤)
-FileSays told f f' b b' t file left old new (Err _) = ⊥
+abbrev pub FileSays : StoreState → StoreState → TableName → List ℕ → ℕ → List FileRead → List FileRead → Result NextHeader StartFault → Type 0
+FileSays store store' t file left old new (Ok next) =
+    OneRead store file left old new (λ bytes. (told_header t (header_of bytes) ≡ Ok next.header) × (next.left ≡ left - length bytes))
+FileSays store store' t file left old new (Err (Table t' (table.Csv fault))) =
+    (t' ≡ t) × (fault ≢ csv.NoMemory) × OneRead store file left old new (λ bytes. header_of bytes ≡ Err fault)
+FileSays store store' t file left old new (Err (Table t' (table.TooBig limit))) =
+    (t' ≡ t) × (new ≡ old) × (limit ≡ min FILE_LIMIT left)
+    × IfSome store.files (λ file_of. IsSomeAnd (file_of (encode_utf8_all file)) (λ whole. limit < length whole))
+FileSays store store' t file left old new (Err ReadFault) = (new ≡ old) × RoseFor store store' (encode_utf8_all file)
+FileSays store store' t file left old new (Err NoMemory) = (new ≡ old) ⊎ OneRead store file left old new (λ bytes. ⊤)
+FileSays store store' t file left old new (Err _) = ⊥
 
 -- a table without a file has no header
 abbrev pub InlineSays : ℕ → List FileRead → List FileRead → Result NextHeader StartFault → Type 0
@@ -54,9 +58,9 @@ InlineSays left old new (Ok next) = (new ≡ old) × (next.header ≡ None) × (
 InlineSays left old new (Err NoMemory) = new ≡ old
 InlineSays left old new (Err _) = ⊥
 
-abbrev pub HeaderSays : ToldFiles → ℕ → ℕ → ℕ → ℕ → TableName → Option (List ℕ) → ℕ → List FileRead → List FileRead → Result NextHeader StartFault → Type 0
-HeaderSays told f f' b b' t None left old new result = InlineSays left old new result
-HeaderSays told f f' b b' t (Some file) left old new result = FileSays told f f' b b' t file left old new result
+abbrev pub HeaderSays : StoreState → StoreState → TableName → Option (List ℕ) → ℕ → List FileRead → List FileRead → Result NextHeader StartFault → Type 0
+HeaderSays store store' t None left old new result = InlineSays left old new result
+HeaderSays store store' t (Some file) left old new result = FileSays store store' t file left old new result
 
 -- ---- the headers of all tables
 
@@ -64,16 +68,16 @@ HeaderSays told f f' b b' t (Some file) left old new result = FileSays told f f'
 abbrev pub file_names : Data → List (Option (List ℕ))
 file_names d = map (λ t. t.file) (sources_of d)
 
-abbrev pub HeadersCause : ToldFiles → ℕ → ℕ → ℕ → ℕ → Data → List FileRead → Result Headers StartFault → Type 0
-HeadersCause told f f' b b' d tables (Ok headers) = headers_in d tables ≡ Ok headers
-HeadersCause told f f' b b' d tables (Err fault) = EndCause told f f' b b' (next_in d tables) (Err fault)
+abbrev pub HeadersCause : StoreState → StoreState → Data → List FileRead → Result Headers StartFault → Type 0
+HeadersCause store store' d tables (Ok headers) = headers_in d tables ≡ Ok headers
+HeadersCause store store' d tables (Err fault) = EndCause store store' (next_in d tables) (Err fault)
 
 -- The files that were read are those of the tables, in order.
-pub record HeadersSay (told : ToldFiles) (f f' b b' : ℕ) (d : Data) (old new : List FileRead) (result : Result Headers StartFault) : Type 0 where
+pub record HeadersSay (store store' : StoreState) (d : Data) (old new : List FileRead) (result : Result Headers StartFault) : Type 0 where
   pub tables : List FileRead
   pub kept : new ≡ old ++ tables
-  pub read : AreRead told (next_in d) tables
-  pub cause : HeadersCause told f f' b b' d tables result
+  pub read : AreRead store (next_in d) tables
+  pub cause : HeadersCause store store' d tables result
 
 -- ---- the rows
 
@@ -87,25 +91,25 @@ RowsSay meant (Err _) = ⊥
 -- ---- the tables, and the model
 
 -- what a start with a document does after the model
-pub record TablesSay (told : ToldFiles) (f f' b b' : ℕ) (d : Data) (old new : List FileRead) (result : Result Started StartFault) : Type 0 where
+pub record TablesSay (store store' : StoreState) (d : Data) (old new : List FileRead) (result : Result Started StartFault) : Type 0 where
   pub tables : List FileRead
   pub kept : new ≡ old ++ tables
-  pub read : AreRead told (next_in d) tables
-  pub cause : EndCause told f f' b b' (next_in d tables) result
+  pub read : AreRead store (next_in d) tables
+  pub cause : EndCause store store' (next_in d tables) result
 
 -- the model alone was read
-pub record ModelRead (told : ToldFiles) (name : List ℕ) (new : List FileRead) (doc : ModelDoc) : Type 0 where
+pub record ModelRead (store : StoreState) (name : List ℕ) (new : List FileRead) (doc : ModelDoc) : Type 0 where
   pub bytes : List ℕ
   pub kept : new ≡ record { name = name; bytes = bytes } ∷ []
-  pub read : AreRead told (next_of name) new
+  pub read : AreRead store (next_of name) new
   pub is_model : read_model bytes ≡ Ok (view doc.json)
   pub checked : IsChecked (view doc.json)
 
 -- what was read, and why it ended
-pub record Ended (told : ToldFiles) (f f' b b' : ℕ) (name : List ℕ) (new : List FileRead) (result : Result Started StartFault) : Type 0 where
-  pub read : AreRead told (next_of name) new
-  pub cause : EndCause told f f' b b' (next_of name new) result
+pub record Ended (store store' : StoreState) (name : List ℕ) (new : List FileRead) (result : Result Started StartFault) : Type 0 where
+  pub read : AreRead store (next_of name) new
+  pub cause : EndCause store store' (next_of name new) result
 
-abbrev pub ModelSays : ToldFiles → ℕ → ℕ → ℕ → ℕ → List ℕ → List FileRead → Result ModelDoc StartFault → Type 0
-ModelSays told f f' b b' name new (Ok doc) = ModelRead told name new doc
-ModelSays told f f' b b' name new (Err fault) = Ended told f f' b b' name new (Err fault)
+abbrev pub ModelSays : StoreState → StoreState → List ℕ → List FileRead → Result ModelDoc StartFault → Type 0
+ModelSays store store' name new (Ok doc) = ModelRead store name new doc
+ModelSays store store' name new (Err fault) = Ended store store' name new (Err fault)

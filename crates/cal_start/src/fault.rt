@@ -1,19 +1,12 @@
 ghost use Rattle.std.specs.Prelude.{◌≡◌};
 ghost use Rattle.cal_start.specs.Next.{model_stop};
 ghost use Rattle.cal_start.specs.Parts.{csv_stop};
+ghost use Rattle.cal_start.specs.declared.fault.StartFault.TheVariants.{NoMemory};
 
-use cal_outside::Word;
-use cal_value::{List, SqlText};
+use cal_value::{List, NoMemory, SqlText};
 use csv_tables::CsvFault;
 use model_json::{ModelCause, ModelFault};
 use thiserror::Error;
-
-/// A file that was read to its end.
-#[derive(Debug, Drop)]
-pub struct FileRead {
-    pub name: Word,
-    pub bytes: List<u8>,
-}
 
 /// A table by its schema and its own name.
 #[derive(Debug, Drop)]
@@ -51,6 +44,14 @@ pub enum StartFault {
     NoMemory,
 }
 
+impl From<NoMemory> for StartFault {
+    ghost from_gives = { λ _ fault. fault ≡ NoMemory };
+
+    fn from(_fault: NoMemory) -> StartFault {
+        StartFault::NoMemory
+    }
+}
+
 /// The fault of a start at a fault of its model.
 pub(crate) fn model_fault(fault: ModelFault) -> StartFault
     ensures { result ≡ model_stop fault }
@@ -59,6 +60,14 @@ pub(crate) fn model_fault(fault: ModelFault) -> StartFault
         ModelFault::NotJson => StartFault::NotJson,
         ModelFault::BadModel { path, cause } => StartFault::BadModel { path, cause },
         ModelFault::NoMemory => StartFault::NoMemory,
+    }
+}
+
+impl From<ModelFault> for StartFault {
+    ghost from_gives = { λ model fault. fault ≡ model_stop model };
+
+    fn from(model: ModelFault) -> StartFault {
+        model_fault(model)
     }
 }
 

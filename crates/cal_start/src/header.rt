@@ -1,23 +1,20 @@
 ghost use Rattle.std.specs.Prelude.{◌≡◌, ◌≤◌, IfOk, IfSome, Some, length};
 ghost use Rattle.model_json.specs.ModelOf.{AreHeadersOf, AreShort, IsChecked, IsHeaderOf};
 ghost use Rattle.serde_json.specs.View.{view};
+ghost use Rattle.cal_outside.specs.Store.{IsLater};
+ghost use Rattle.cal_start.specs.Ends.{KeepsEach};
 ghost use Rattle.cal_start.specs.Next.{source_name};
 ghost use Rattle.cal_start.specs.Parts.{FileSays, file_names, HeaderSays, HeadersSay};
 
-use crate::fault::{FileRead, StartFault, TableFault, TableName, csv_fault};
+use crate::fault::{StartFault, TableFault, TableName, csv_fault};
+use crate::files::{FileRead, keep, make_room};
 use crate::name::{file_word, table_name};
 use cal_outside::{ReadAllFault, Store, read_all};
 use cal_schema::ColumnDef;
-use cal_value::{List, SqlText};
+use cal_value::{COLUMN_LIMIT, FILE_LIMIT, FILES_LIMIT, List, SqlText};
 use csv_tables::header;
 use model_json::{ModelDoc, TableSource, sources};
 use std::alloc::Global;
-
-/// The most bytes of the file of a table.
-const MOST_TABLE: u64 = 8388608;
-
-/// The most bytes of the files of all tables.
-const MOST_TABLES: u64 = 33554432;
 
 /// The columns of a table that is read from a file, and how many bytes are left for the files of later tables.
 #[derive(Debug, Drop)]
@@ -33,26 +30,22 @@ fn read_file<S: Store>(
     file: &SqlText,
     left: u64,
     store: &mut S,
-    files: &mut List<FileRead>,
+    files: &mut Vec<FileRead>,
 ) -> Result<NextHeader, StartFault>
-    ensures same { S.files store.new ≡ S.files store.old }
-    ensures later { S.faults store.old ≤ S.faults store.new }
-    ensures broken_later { S.broken store.old ≤ S.broken store.new }
-    ensures few { IfOk result (λ next. IfSome next.header (λ columns. length columns ≤ 32)) }
+    ensures later { IsLater (S.state store.old) (S.state store.new) }
+    ensures each { KeepsEach (S.state store.old) (S.state store.new) files.old.items files.new.items }
+    ensures few { IfOk result (λ next. IfSome next.header (λ columns. length columns ≤ COLUMN_LIMIT)) }
     ensures header { IfOk result (λ next. IsHeaderOf (Some file.now) next.header) }
-    ensures read { FileSays (S.files store.old) (S.faults store.old) (S.faults store.new) (S.broken store.old) (S.broken store.new)
-        table file.now left files.old files.new result }
+    ensures read { FileSays (S.state store.old) (S.state store.new)
+        table file.now left files.old.items files.new.items result }
 {
-    let Ok(name) = file_word(alloc, file) else {
-        return Err(StartFault::NoMemory);
-    };
-    match read_all(alloc, store, name.as_str(), left.min(MOST_TABLE)) {
+    let name = file_word(alloc, file)?;
+    make_room(files)?;
+    match read_all(alloc, store, name.as_str(), left.min(FILE_LIMIT)) {
         Ok(bytes) => {
             let left = left - bytes.len() as u64;
             let read = header(alloc, bytes.as_slice());
-            let Ok(()) = files.push(FileRead { name, bytes }) else {
-                return Err(StartFault::NoMemory);
-            };
+            keep(files, FileRead { name, bytes });
             match read {
                 Ok(columns) => Ok(NextHeader {
                     header: Some(columns),
@@ -76,22 +69,21 @@ fn next_header<S: Store>(
     source: &TableSource,
     left: u64,
     store: &mut S,
-    files: &mut List<FileRead>,
+    files: &mut Vec<FileRead>,
 ) -> Result<NextHeader, StartFault>
-    ensures same { S.files store.new ≡ S.files store.old }
-    ensures later { S.faults store.old ≤ S.faults store.new }
-    ensures broken_later { S.broken store.old ≤ S.broken store.new }
-    ensures few { IfOk result (λ next. IfSome next.header (λ columns. length columns ≤ 32)) }
+    ensures later { IsLater (S.state store.old) (S.state store.new) }
+    ensures each { KeepsEach (S.state store.old) (S.state store.new) files.old.items files.new.items }
+    ensures few { IfOk result (λ next. IfSome next.header (λ columns. length columns ≤ COLUMN_LIMIT)) }
     ensures header { IfOk result (λ next. IsHeaderOf source.now.file next.header) }
-    ensures read { HeaderSays (S.files store.old) (S.faults store.old) (S.faults store.new) (S.broken store.old) (S.broken store.new)
-        (source_name source.now) source.now.file left files.old files.new result }
+    ensures read { HeaderSays (S.state store.old) (S.state store.new)
+        (source_name source.now) source.now.file left files.old.items files.new.items result }
 {
     match &source.file {
         None => Ok(NextHeader { header: None, left }),
-        Some(file) => match table_name(alloc, &source.schema, &source.name) {
-            Ok(table) => read_file(alloc, table, file, left, store, files),
-            Err(_) => Err(StartFault::NoMemory),
-        },
+        Some(file) => {
+            let table = table_name(alloc, &source.schema, &source.name)?;
+            read_file(alloc, table, file, left, store, files)
+        }
     }
 }
 
@@ -100,22 +92,21 @@ pub(crate) fn read_headers<S: Store>(
     alloc: Global,
     doc: &ModelDoc,
     store: &mut S,
-    files: &mut List<FileRead>,
+    files: &mut Vec<FileRead>,
 ) -> Result<List<Option<List<ColumnDef>>>, StartFault>
     requires { IsChecked (view doc.now.json) }
-    ensures same { S.files store.new ≡ S.files store.old }
-    ensures later { S.faults store.old ≤ S.faults store.new }
-    ensures broken_later { S.broken store.old ≤ S.broken store.new }
+    ensures later { IsLater (S.state store.old) (S.state store.new) }
+    ensures each { KeepsEach (S.state store.old) (S.state store.new) files.old.items files.new.items }
     ensures short { IfOk result AreShort }
     ensures headers { IfOk result (AreHeadersOf (file_names (view doc.now.json))) }
-    ensures read { HeadersSay (S.files store.old) (S.faults store.old) (S.faults store.new) (S.broken store.old) (S.broken store.new)
-        (view doc.now.json) files.old files.new result }
+    ensures read { HeadersSay (S.state store.old) (S.state store.new)
+        (view doc.now.json) files.old.items files.new.items result }
 {
     let Ok(tables) = sources(alloc, doc) else {
         return Err(StartFault::NoMemory);
     };
     let mut headers = List::new(alloc);
-    let mut left = MOST_TABLES;
+    let mut left = FILES_LIMIT;
     for source in tables.as_slice() {
         match next_header(alloc, source, left, store, files) {
             Ok(next) => {

@@ -2,12 +2,14 @@
 #![tactic(auto)]
 
 mod fault;
+mod files;
 mod header;
 mod name;
 mod rows;
 mod run;
 
-pub use fault::{FileRead, StartFault, TableFault, TableName};
+pub use fault::{StartFault, TableFault, TableName};
+pub use files::FileRead;
 pub use run::{StartRecord, Started, start};
 
 #[cfg(test)]

@@ -1,19 +1,9 @@
-ghost use Rattle.std.specs.Prelude.{◌≡◌, IfOk, OnOk, ◌++◌, encode_utf8_all, string_bytes};
+ghost use Rattle.std.specs.Prelude.{◌≡◌, IfOk, encode_utf8_all};
 
 use crate::fault::TableName;
 use cal_outside::Word;
-use cal_value::{Duplicate, NoMemory, SqlText};
+use cal_value::{Duplicate, NoMemory, SqlText, push_characters};
 use std::alloc::Global;
-
-#[tactic(auto, using(crate::proofs::NameLemmas::encoded_more))]
-fn push_characters(out: &mut String, text: &[char]) -> Result<(), NoMemory>
-    ensures { OnOk result (string_bytes out.new ≡ string_bytes out.old ++ encode_utf8_all text.now) }
-{
-    for character in text {
-        out.push(*character)?;
-    }
-    Ok(())
-}
 
 /// The name of a file as a word.
 pub(crate) fn file_word(alloc: Global, name: &SqlText) -> Result<Word, NoMemory>

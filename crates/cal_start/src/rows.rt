@@ -6,7 +6,8 @@ ghost use Rattle.model_json.specs.ModelOf.{AreInlineFilled, IsInlineOf};
 ghost use Rattle.cal_start.specs.Next as spec;
 ghost use Rattle.cal_start.specs.Parts.{RowsSay};
 
-use crate::fault::{FileRead, StartFault, csv_fault};
+use crate::fault::{StartFault, csv_fault};
+use crate::files::FileRead;
 use crate::name::table_name;
 use cal_schema::TableDef;
 use cal_value::{List, Row};
@@ -47,9 +48,7 @@ fn file_rows(alloc: Global, table: &TableDef, bytes: &[u8]) -> Result<List<Row>,
     ensures rows { RowsSay (spec.told_rows (spec.table_name table.now) (table_of bytes.now table.now)) result }
     ensures filled { IfOk result (IsFilledBy table.now) }
 {
-    let Ok(name) = table_name(alloc, &table.schema, &table.name) else {
-        return Err(StartFault::NoMemory);
-    };
+    let name = table_name(alloc, &table.schema, &table.name)?;
     match decode(alloc, bytes, table) {
         Ok(rows) => Ok(rows),
         Err(fault) => Err(csv_fault(name, fault)),
@@ -94,14 +93,8 @@ pub(crate) fn all_rows(
             return Ok(all);
         };
         let later = files_for(&stored, left);
-        match table_rows(alloc, table, stored, left) {
-            Ok(rows) => {
-                let Ok(()) = all.push(rows) else {
-                    return Err(StartFault::NoMemory);
-                };
-            }
-            Err(fault) => return Err(fault),
-        }
+        let rows = table_rows(alloc, table, stored, left)?;
+        all.push(rows)?;
         left = later;
     }
     Ok(all)
