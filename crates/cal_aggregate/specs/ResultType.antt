@@ -25,7 +25,8 @@ counts n = Range (pos 0) (pos (row_bound n))
 -- of sums of at most n numbers, and of at least one
 abbrev pub sums : ℕ → Interval → Interval
 sums n Never = Never
-sums n (Range lo hi) = let m = pos (max (row_bound n) 1) in Range (int_min lo (lo *ℤ m)) (int_max hi (hi *ℤ m))
+sums n (Range lo hi) =
+    let m = pos (max (row_bound n) 1) in Range (int_min lo (lo *ℤ m)) (int_max hi (hi *ℤ m))
 
 abbrev pub with_zero : Interval → Interval
 with_zero Never = Range (pos 0) (pos 0)
@@ -35,7 +36,8 @@ with_zero (Range lo hi) = Range (int_min lo (pos 0)) (int_max hi (pos 0))
 abbrev pub agg_type : Agg → Option SqlType → ℕ → Option SqlType
 agg_type Count argument n = number_type false (counts n)
 agg_type Sum (Some t) n = if is_integer t then number_type true (sums n t.interval) else None
-agg_type Sum0 (Some t) n = if is_integer t then number_type false (with_zero (sums n t.interval)) else None
+agg_type Sum0 (Some t) n =
+    if is_integer t then number_type false (with_zero (sums n t.interval)) else None
 agg_type Min (Some t) n = Some (record t { nullable = true })
 agg_type Max (Some t) n = Some (record t { nullable = true })
 agg_type agg None n = None
@@ -47,8 +49,8 @@ AreArguments vs argument = IfSome argument (λ t. All (λ v. IsOfType v t) vs)
 -- the value is of each type that the aggregate has over types of the values
 abbrev pub IsWellAggregated : Agg → List Value → Value → Type 0
 IsWellAggregated agg vs v =
-    (argument : Option SqlType) (u : SqlType) (n : ℕ) → AreArguments vs argument → IsBounded (length vs) n → agg_type agg argument n ≡ Some u
-    → IsOfType v u
+    (argument : Option SqlType) (u : SqlType) (n : ℕ) → AreArguments vs argument
+    → IsBounded (length vs) n → agg_type agg argument n ≡ Some u → IsOfType v u
 
 -- the values have a type over which the aggregate has one
 pub record IsAggregable (agg : Agg) (vs : List Value) : Type 0 where

@@ -44,8 +44,10 @@ pub fn aggregate_order_law(agg: Agg, values: &List<Value>, others: &List<Value>)
 /// The aggregate of a whole from those of its parts: COUNT by SUM0, each other one by itself.
 #[tactic(auto, using(crate::proofs::AggregateFolds::aggregate_laws))]
 pub fn roll_up_law(agg: Agg, groups: &List<List<Value>>)
-    ensures two { (vs ws : ListOf ValueOf) → aggregated agg (vs ++ ws) ≡ combined (rolled agg) (aggregated agg vs) (aggregated agg ws) }
-    ensures any { aggregated agg (flat_map (λ vs. vs) groups.now) ≡ aggregated (rolled agg) (map (aggregated agg) groups.now) }
+    ensures two { (vs ws : ListOf ValueOf) → aggregated agg (vs ++ ws)
+        ≡ combined (rolled agg) (aggregated agg vs) (aggregated agg ws) }
+    ensures any { aggregated agg (flat_map (λ vs. vs) groups.now)
+        ≡ aggregated (rolled agg) (map (aggregated agg) groups.now) }
 {
     let _ = groups;
 }

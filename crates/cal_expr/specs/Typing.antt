@@ -32,17 +32,20 @@ abbrev pub negation_type : SqlType → Option SqlType
 negation_type t = if is_integer t then number_type t.nullable (negated t.interval) else None
 
 abbrev pub arithmetic_type : (ℤ → ℤ → ℤ) → SqlType → SqlType → Option SqlType
-arithmetic_type f s t = if is_integer s && is_integer t then number_type (either_nullable s t) (at_ends f s.interval t.interval) else None
+arithmetic_type f s t =
+    if is_integer s && is_integer t then number_type (either_nullable s t) (at_ends f s.interval t.interval) else None
 
 -- the divisor's interval doesn't hold 0
 abbrev pub quotient_type : SqlType → SqlType → Option SqlType
 quotient_type s t = if excludes_zero t.interval then arithmetic_type int_div s t else None
 
 abbrev pub comparison_type : SqlType → SqlType → Option SqlType
-comparison_type s t = if same_kind s.kind t.kind then Some (boolean_type (either_nullable s t)) else None
+comparison_type s t =
+    if same_kind s.kind t.kind then Some (boolean_type (either_nullable s t)) else None
 
 abbrev pub connective_type : SqlType → SqlType → Option SqlType
-connective_type s t = if is_boolean s && is_boolean t then Some (boolean_type (either_nullable s t)) else None
+connective_type s t =
+    if is_boolean s && is_boolean t then Some (boolean_type (either_nullable s t)) else None
 
 abbrev pub not_type : SqlType → Option SqlType
 not_type t = if is_boolean t then Some (boolean_type t.nullable) else None
@@ -57,7 +60,8 @@ op_type Or = connective_type
 op_type op = comparison_type
 
 -- none where a part has none
-abbrev pub of_both : (SqlType → SqlType → Option SqlType) → Option SqlType → Option SqlType → Option SqlType
+abbrev pub of_both : (SqlType → SqlType → Option SqlType)
+    → Option SqlType → Option SqlType → Option SqlType
 of_both f (Some s) (Some t) = f s t
 of_both f s t = None
 

@@ -14,4 +14,5 @@ pub record IsWellFormed (e : Expr) (row : List Value) : Type 0 where
 
 -- the value is of each type that the expression has over types of the row
 abbrev pub IsWellTyped : Expr → List Value → Value → Type 0
-IsWellTyped e row v = (ts : List SqlType) (t : SqlType) → HasTypes row ts → type_of e ts ≡ Some t → IsOfType v t
+IsWellTyped e row v =
+    (ts : List SqlType) (t : SqlType) → HasTypes row ts → type_of e ts ≡ Some t → IsOfType v t

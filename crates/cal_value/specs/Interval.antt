@@ -35,7 +35,8 @@ is_in_range (Range lo hi) = is_number lo && is_number hi
 -- both ends are above 0, or both below
 abbrev pub excludes_zero : Interval → Bool
 excludes_zero Never = true
-excludes_zero (Range lo hi) = (int_lt (pos 0) lo && int_lt (pos 0) hi) || (int_lt lo (pos 0) && int_lt hi (pos 0))
+excludes_zero (Range lo hi) =
+    (int_lt (pos 0) lo && int_lt (pos 0) hi) || (int_lt lo (pos 0) && int_lt hi (pos 0))
 
 -- it holds the two, and is within each interval that holds them
 pub record IsLeastOfTwo (p q : ℤ) (i : Interval) : Type 0 where
@@ -68,13 +69,15 @@ at_ends f (Range a b) (Range c d) = hull (f a c) (f a d) (f b c) (f b d)
 -- the least interval that holds the negations of both ends
 abbrev pub negated : Interval → Interval
 negated Never = Never
-negated (Range lo hi) = Range (int_min (pos 0 -ℤ lo) (pos 0 -ℤ hi)) (int_max (pos 0 -ℤ lo) (pos 0 -ℤ hi))
+negated (Range lo hi) =
+    Range (int_min (pos 0 -ℤ lo) (pos 0 -ℤ hi)) (int_max (pos 0 -ℤ lo) (pos 0 -ℤ hi))
 
 -- what both hold
 abbrev pub meet_of : Interval → Interval → Interval
 meet_of Never j = Never
 meet_of (Range a b) Never = Never
-meet_of (Range a b) (Range c d) = if int_lt (int_min b d) (int_max a c) then Never else Range (int_max a c) (int_min b d)
+meet_of (Range a b) (Range c d) =
+    if int_lt (int_min b d) (int_max a c) then Never else Range (int_max a c) (int_min b d)
 
 -- it is within both, and whatever is within both is within it
 pub record IsMeet (i j m : Interval) : Type 0 where

@@ -17,7 +17,8 @@ class (BoolValue b) = 1
 class (Int n) = 2
 class (Text t) = 3
 
--- FALSE before TRUE, numbers by size, texts by code point. Values of two kinds are never compared; here their kinds decide
+-- FALSE before TRUE, numbers by size, texts by code point. Values of two kinds are never compared;
+-- here their kinds decide
 abbrev pub value_cmp : Value → Value → Ordering
 value_cmp (BoolValue x) (BoolValue y) = bool_cmp x y
 value_cmp (Int x) (Int y) = int_cmp x y
@@ -42,7 +43,8 @@ columns_of row columns = map (column_of row) columns
 -- key after key
 abbrev pub row_cmp : List KeyOrder → List Value → List Value → Ordering
 row_cmp [] a b = Equal
-row_cmp (k ∷ ks) a b = ordering_then (key_cmp k (column_of a k.column) (column_of b k.column)) (row_cmp ks a b)
+row_cmp (k ∷ ks) a b =
+    ordering_then (key_cmp k (column_of a k.column) (column_of b k.column)) (row_cmp ks a b)
 
 -- no row is greater than the next one
 abbrev pub IsInOrder : List KeyOrder → List (List Value) → Type 0

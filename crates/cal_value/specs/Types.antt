@@ -43,7 +43,8 @@ is_boolean t = same_kind t.kind Boolean
 abbrev pub IsProperType : SqlType → Type 0
 IsProperType t = t.kind ≡ Integer → IsProper t.interval
 
--- the type is true of the value: its kind, within the interval, and NULL only where the type is nullable
+-- the type is true of the value: its kind, within the interval, and NULL only where the type is
+-- nullable
 abbrev pub IsOfType : Value → SqlType → Type 0
 IsOfType Null t = t.nullable ≡ true
 IsOfType (BoolValue b) t = t.kind ≡ Boolean
@@ -66,7 +67,11 @@ AreAtMostAsWide types others = AllZip IsAtMostAsWide types others
 
 -- what both types hold, of two types of one kind
 abbrev pub met_type : SqlType → SqlType → SqlType
-met_type s t = record { kind = s.kind; nullable = s.nullable && t.nullable; interval = meet_of s.interval t.interval }
+met_type s t = record {
+  kind = s.kind;
+  nullable = s.nullable && t.nullable;
+  interval = meet_of s.interval t.interval;
+}
 
 -- it is at most as wide as both, and whatever is so is at most as wide as it
 pub record IsTypeMeet (s t m : SqlType) : Type 0 where
