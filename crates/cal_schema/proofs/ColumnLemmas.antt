@@ -9,6 +9,7 @@ use Rattle.std.proofs.lemmas.List.Quantifiers.{all_pairs_push}
 use Rattle.std.proofs.lemmas.Slice.Eq.{slice_eq-Decides}
 use Rattle.std.specs.Cmp.Lexicographic.{pointwise}
 use Rattle.cal_value.specs.declared.kind.SqlType.{SqlType}
+use Rattle.cal_value.specs.declared.limits.TheConstants.{COLUMN_LIMIT, NAME_LIMIT}
 use Rattle.cal_value.specs.Types.{boolean_type, text_type}
 use Rattle.cal_schema.specs.declared.column.ColumnDef.{ColumnDef}
 use Rattle.cal_schema.specs.declared.column.ColumnFault.TheVariants.{NameTooLong, BadColumn}
@@ -68,7 +69,7 @@ named_type word t e = (word, e ∙ ap (λ b. Some (record t { nullable = b })) (
 
 pub record IsColumn (c : ColumnDef) : Type 0 where
   pub named : 0 < length c.name
-  pub short : length c.name ≤ 128
+  pub short : length c.name ≤ NAME_LIMIT
   pub typed : IsColumnType c.kind
   pub nullable : c.kind.nullable ≡ true
 
@@ -79,7 +80,7 @@ typed_column-parts name (Some t) c e =
     let same : column ≡ c = Prim.cc in
     (ap (λ (k : ColumnDef). k.name) same, ap (λ (k : ColumnDef). Some k.kind) same)
 
-typed_column-is : (name word : List ℕ) (o : Option SqlType) (c : ColumnDef) → type_named word ≡ o → 0 < length name → length name ≤ 128 → typed_column name o ≡ Ok c → IsColumn c
+typed_column-is : (name word : List ℕ) (o : Option SqlType) (c : ColumnDef) → type_named word ≡ o → 0 < length name → length name ≤ NAME_LIMIT → typed_column name o ≡ Ok c → IsColumn c
 typed_column-is name word None c is some few e = absurd (Prim.cc)
 typed_column-is name word (Some t) c is some few e =
     let column : ColumnDef = record { name = name; kind = t } in
@@ -89,16 +90,16 @@ typed_column-is name word (Some t) c is some few e =
 -- the text names a column: its name is short, and not empty
 pub record Names (text : List ℕ) (c : ColumnDef) : Type 0 where
   pub some : 0 < length (name_part text)
-  pub few : length (name_part text) ≤ 128
+  pub few : length (name_part text) ≤ NAME_LIMIT
   pub column : typed_column (name_part text) (type_named (word_part text)) ≡ Ok c
 
 names : (text : List ℕ) (c : ColumnDef) → column_of text ≡ Ok c → Names text c
 names text c e =
     let name = name_part text in
-    let short = past_if (nat_lt 128 (length name)) (Err (NameTooLong 128)) (cond (length name == 0) (Err BadColumn) (typed_column name (type_named (word_part text)))) (Ok c) (λ f. Prim.cc) e in
+    let short = past_if (nat_lt NAME_LIMIT (length name)) (Err (NameTooLong NAME_LIMIT)) (cond (length name == 0) (Err BadColumn) (typed_column name (type_named (word_part text)))) (Ok c) (λ f. Prim.cc) e in
     let some = past_if (length name == 0) (Err BadColumn) (typed_column name (type_named (word_part text))) (Ok c) (λ f. Prim.cc) short.1 in
     let ne : length name ≡ 0 → ⊥ = eqb-false (length name) 0 some.0 in
-    record { some = omega (arith, ne); few = ltb-false 128 (length name) short.0; column = some.1 }
+    record { some = omega (arith, ne); few = ltb-false NAME_LIMIT (length name) short.0; column = some.1 }
 
 -- what a text names is a column
 pub column_of-is : (text : List ℕ) (c : ColumnDef) → column_of text ≡ Ok c → IsColumn c
@@ -125,12 +126,12 @@ columns_push cs c are is none = record {
   apart = all_pairs_push (λ a b. a.name ≢ b.name) cs c are.apart (λ k d lt same. none_passes (λ e. is_same_name e.name c.name) cs none k d lt (is_same (get_or cs k d).name c.name same));
 }
 
-pub header_of_columns : (cs : List ColumnDef) → AreColumns cs → 0 < length cs → length cs ≤ 32 → IsHeader cs
+pub header_of_columns : (cs : List ColumnDef) → AreColumns cs → 0 < length cs → length cs ≤ COLUMN_LIMIT → IsHeader cs
 header_of_columns cs are some few = record {
   some_columns = some;
   few_columns = few;
   columns_named = All-weaker IsColumn (λ c. 0 < length c.name) (λ c is. is.named) cs are.each;
-  columns_short = All-weaker IsColumn (λ c. length c.name ≤ 128) (λ c is. is.short) cs are.each;
+  columns_short = All-weaker IsColumn (λ c. length c.name ≤ NAME_LIMIT) (λ c is. is.short) cs are.each;
   columns_apart = are.apart;
   typed = All-weaker IsColumn (λ c. IsColumnType c.kind) (λ c is. is.typed) cs are.each;
   nullable = All-weaker IsColumn (λ c. c.kind.nullable ≡ true) (λ c is. is.nullable) cs are.each;

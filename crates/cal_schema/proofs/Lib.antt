@@ -1,2 +1,3 @@
-pub mod NameLemmas
 pub mod ColumnLemmas
+pub mod KeyLemmas
+pub mod NameLemmas

@@ -3,6 +3,7 @@ use Rattle.std.specs.Prelude.{◌≡◌, ℕ, pos, neg_ℤ, ◌-◌, ◌==◌, n
 use Rattle.std.specs.List.{suffix_len}
 use Rattle.std.specs.Cmp.Lexicographic.{pointwise}
 use Rattle.cal_value.specs.declared.interval.Interval.TheVariants.{Range}
+use Rattle.cal_value.specs.declared.limits.TheConstants.{NAME_LIMIT}
 use Rattle.cal_value.specs.declared.kind.SqlType.{SqlType}
 use Rattle.cal_value.specs.Types.{boolean_type, integer_type, text_type}
 use Rattle.cal_schema.specs.declared.column.ColumnDef.{ColumnDef}
@@ -52,7 +53,7 @@ typed_column name (Some kind) = Ok (record { name = name; kind = kind })
 -- the column of a text NAME:type, or why it names none
 abbrev pub column_of : List ℕ → Result ColumnDef ColumnFault
 column_of text =
-    if nat_lt 128 (length (name_part text)) then Err (NameTooLong 128)
+    if nat_lt NAME_LIMIT (length (name_part text)) then Err (NameTooLong NAME_LIMIT)
     else if length (name_part text) == 0 then Err BadColumn
     else typed_column (name_part text) (type_named (word_part text))
 

@@ -1,4 +1,5 @@
 pub mod Column
+pub mod File
 pub mod Fits
 pub mod Lookup
 pub mod Valid

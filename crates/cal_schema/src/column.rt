@@ -1,15 +1,12 @@
-ghost use Rattle.std.specs.Prelude.{◌≡◌, true, ◌-◌, ◌==◌, take, length, IfOk, if◌then◌else◌};
+ghost use Rattle.std.specs.Prelude.{◌≡◌, true, ◌-◌, ◌==◌, take, length, if◌then◌else◌};
 ghost use Rattle.std.specs.Str.{chars};
 ghost use Rattle.cal_value.specs.Types as types;
 ghost use Rattle.cal_value.specs.declared.interval.Interval.TheVariants.{Range};
 ghost use Rattle.cal_schema.specs.Column as spec;
 
-use cal_value::{Duplicate, Interval, NoMemory, SqlText, SqlType};
-use std::alloc::{AllocError, Global};
+use cal_value::{Duplicate, Interval, NAME_LIMIT, NoMemory, SqlText, SqlType, characters};
+use std::alloc::Global;
 use thiserror::Error;
-
-/// How many characters a name may have.
-pub const NAME_LIMIT: u32 = 128;
 
 /// A column: its name, and what may stand in it.
 #[derive(Debug, Drop)]
@@ -51,13 +48,6 @@ impl ColumnDef {
             Err(_) => Err(ColumnFault::NoMemory),
         }
     }
-}
-
-#[tactic(auto, using(std::proofs::lemmas::Str::chars_from_encodes))]
-fn characters(alloc: Global, text: &str) -> Result<Vec<char>, AllocError>
-    ensures { IfOk result (λ all. all.items ≡ chars text.now) }
-{
-    text.chars().collect(alloc)
 }
 
 fn column_of(mut text: Vec<char>) -> Result<ColumnDef, ColumnFault>

@@ -3,17 +3,18 @@
 
 mod column;
 mod database;
+pub mod laws;
 mod refusal;
 mod schema;
 mod table;
 mod tile;
 
 pub use cal_value::Agg;
-pub use column::{ColumnDef, ColumnFault, NAME_LIMIT};
+pub use column::{ColumnDef, ColumnFault};
 pub use database::Db;
 pub use refusal::{Refusal, WrittenName};
 pub use schema::Schema;
-pub use table::{AdapterKind, TableDef};
+pub use table::{AdapterKind, TableDef, is_compressed};
 pub use tile::{Measure, TileInfo, TileKey};
 
 #[cfg(test)]

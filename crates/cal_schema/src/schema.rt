@@ -3,7 +3,7 @@ ghost use Rattle.std.specs.Str.{chars};
 ghost use Rattle.std.specs.Cmp.Lexicographic.{pointwise};
 
 use crate::table::TableDef;
-use cal_value::{Duplicate, List, NoMemory, SqlText};
+use cal_value::{Duplicate, List, NoMemory, SqlText, TABLE_LIMIT};
 use std::alloc::Global;
 
 /// Tables, and the schema of the names that are written without one.
@@ -61,8 +61,9 @@ impl Schema {
     /// compared as written. None comes exactly where there is no such table. Takes no memory. A valid schema has at most
     /// 64 tables.
     pub fn table(&self, schema: Option<&str>, name: &str) -> Option<u32>
-        requires { length self.now.tables ≤ 64 }
-        ensures found { result ≡ table_named self.now (option_map (λ s. chars s.now) schema.entry) (chars name.now) }
+        requires { length self.now.tables ≤ TABLE_LIMIT }
+        ensures found { result ≡ table_named self.now
+            (option_map (λ s. chars s.now) schema.entry) (chars name.now) }
         ensures within { IfSome result (λ at. at < length self.now.tables) }
     {
         for (at, table) in self.tables.as_slice().iter().enumerate() {
@@ -94,7 +95,7 @@ impl Schema {
     /// The same of names that are texts.
     #[tactic(auto, using(crate::proofs::NameLemmas::place_rules))]
     pub fn table_of(&self, schema: &Option<SqlText>, name: &SqlText) -> Option<u32>
-        requires { length self.now.tables ≤ 64 }
+        requires { length self.now.tables ≤ TABLE_LIMIT }
         ensures found { result ≡ table_named self.now schema.now name.now }
         ensures within { IfSome result (λ at. at < length self.now.tables) }
     {

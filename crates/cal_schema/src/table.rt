@@ -1,4 +1,5 @@
 ghost use Rattle.std.specs.Prelude.{◌≡◌, IfOk};
+ghost use Rattle.cal_schema.specs.File as spec;
 
 use crate::column::ColumnDef;
 use cal_value::{Duplicate, List, NoMemory, SqlText};
@@ -41,4 +42,23 @@ impl Duplicate for TableDef {
             primary_key,
         })
     }
+}
+
+fn is_gz(end: &[char]) -> bool
+    ensures { result ≡ spec.is_gz end.now }
+{
+    match end {
+        [dot, g, z] => {
+            *dot == '.' && g.to_ascii_lowercase() == 'g' && z.to_ascii_lowercase() == 'z'
+        }
+        _ => false,
+    }
+}
+
+/// Whether the name of a file ends in `.gz`, in any case.
+pub fn is_compressed(name: &[char]) -> bool
+    ensures { result ≡ spec.is_compressed name.now }
+{
+    let (_, end) = name.split_at(name.len().saturating_sub(3));
+    is_gz(end)
 }

@@ -2,61 +2,63 @@ ghost use Rattle.std.specs.Prelude.{◌≡◌, IfOk, length};
 
 use crate::{
     AdapterKind, ColumnDef, ColumnFault, Db, Measure, Schema, TableDef, TileInfo, TileKey,
+    is_compressed,
 };
 use cal_value::{Agg, Duplicate, Interval, Kind, List, NoMemory, SqlText, SqlType, Value};
 use std::alloc::Global;
 use std::test::Fail;
 
-fn has_type(
-    alloc: Global,
-    text: &str,
-    name: &str,
-    kind: Kind,
-    lo: i128,
-    hi: i128,
-) -> Result<bool, Fail> {
-    let column = ColumnDef::parse(alloc, text)?;
-    let wanted = SqlText::of(alloc, name)?;
-    Ok(
-        column.name == wanted
-            && column.kind
-                == SqlType {
-                    kind,
-                    nullable: true,
-                    interval: Interval::Range { lo, hi },
-                },
-    )
-}
-
 #[test]
 fn a_column_is_a_name_and_a_word(rt: HostRuntime) -> Result<(), Fail> {
     let alloc = rt.alloc();
-    assert!(rt; has_type(alloc, "A", "A", Kind::Text, 0, 0)?);
-    assert!(rt; has_type(alloc, "A:string", "A", Kind::Text, 0, 0)?);
-    assert!(rt; has_type(alloc, "a b:boolean", "a b", Kind::Boolean, 0, 0)?);
-    assert!(rt; has_type(alloc, "A:short", "A", Kind::Integer, -32768, 32767)?);
-    assert!(rt;
-        has_type(
-            alloc,
+    let long = (i128::from(i64::MIN), i128::from(i64::MAX));
+    for (text, name, kind, ends) in [
+        ("A", "A", Kind::Text, (0, 0)),
+        ("A:string", "A", Kind::Text, (0, 0)),
+        ("a b:boolean", "a b", Kind::Boolean, (0, 0)),
+        ("A:short", "A", Kind::Integer, (-32768, 32767)),
+        (
             "x:int:int",
             "x:int",
             Kind::Integer,
-            -2147483648,
-            2147483647
-        )?
-    );
-    assert!(rt;
-        has_type(
-            alloc,
-            "ß:long",
-            "ß",
-            Kind::Integer,
-            i128::from(i64::MIN),
-            i128::from(i64::MAX)
-        )?
-    );
+            (-2147483648, 2147483647),
+        ),
+        ("ß:long", "ß", Kind::Integer, long),
+    ] {
+        let column = ColumnDef::parse(alloc, text)?;
+        let (lo, hi) = ends;
+        assert!(rt; column.name == SqlText::of(alloc, name)?, "{text}");
+        assert!(rt;
+            column.kind
+                == SqlType {
+                    kind,
+                    nullable: true,
+                    interval: Interval::Range { lo, hi }
+                },
+            "{text}"
+        );
+    }
     for text in ["", ":int", "A:", "A:byte", "A:INT", "A:int ", "A: int"] {
-        assert!(rt; ColumnDef::parse(alloc, text).err() == Some(ColumnFault::BadColumn));
+        assert!(rt;
+            ColumnDef::parse(alloc, text).err() == Some(ColumnFault::BadColumn),
+            "{text}"
+        );
+    }
+    Ok(())
+}
+
+#[test]
+fn compressed_files(rt: HostRuntime) -> Result<(), Fail> {
+    for (name, found) in [
+        ("a.gz", true),
+        (".gZ", true),
+        ("ß.GZ", true),
+        ("gz", false),
+        ("a.gz ", false),
+        ("", false),
+    ] {
+        let name = SqlText::of(rt.alloc(), name)?;
+        assert_eq!(rt; is_compressed(name.as_slice()), found);
     }
     Ok(())
 }
@@ -71,7 +73,7 @@ fn repeated(alloc: Global, count: usize, end: &str) -> Result<String, NoMemory> 
 }
 
 #[test]
-fn a_name_has_128_characters(rt: HostRuntime) -> Result<(), Fail> {
+fn the_longest_name(rt: HostRuntime) -> Result<(), Fail> {
     let alloc = rt.alloc();
     let most = ColumnDef::parse(alloc, repeated(alloc, 128, ":int")?.as_str())?;
     assert_eq!(rt; most.name.as_slice().len(), 128);
@@ -127,16 +129,26 @@ fn tables_are_found_by_their_names(rt: HostRuntime) -> Result<(), Fail> {
         tables,
     };
     assert_eq!(rt; schema.table(None, "T"), None);
-    assert_eq!(rt; schema.table(Some("S"), "U"), Some(1));
-    assert_eq!(rt; schema.table(Some("R"), "T"), Some(2));
-    assert_eq!(rt; schema.table(Some("R"), "U"), None);
-    assert_eq!(rt; schema.table(Some("S"), "t"), None);
-    assert_eq!(rt; schema.table(Some("S"), "TT"), None);
-    assert_eq!(rt; schema.table(Some("S"), ""), None);
     schema.default_schema = Some(SqlText::of(alloc, "R")?);
-    assert_eq!(rt; schema.table(None, "T"), Some(2));
-    assert_eq!(rt; schema.table(None, "U"), None);
-    assert_eq!(rt; schema.table(Some("S"), "T"), Some(0));
+    for (written, name, found) in [
+        (Some("S"), "T", Some(0)),
+        (Some("S"), "U", Some(1)),
+        (Some("R"), "T", Some(2)),
+        (Some("R"), "U", None),
+        (Some("S"), "t", None),
+        (Some("S"), "TT", None),
+        (Some("S"), "", None),
+        (None, "T", Some(2)),
+        (None, "U", None),
+    ] {
+        assert_eq!(rt; schema.table(written, name), found, "{name}");
+        let schema_name = match written {
+            Some(text) => Some(SqlText::of(alloc, text)?),
+            None => None,
+        };
+        let name = SqlText::of(alloc, name)?;
+        assert_eq!(rt; schema.table_of(&schema_name, &name), found);
+    }
     Ok(())
 }
 
@@ -188,8 +200,8 @@ fn a_database_is_copied(rt: HostRuntime) -> Result<(), Fail> {
     rows.push(row)?;
     let mut tables = List::new(alloc);
     tables.push(rows)?;
-    let copy = Db { tables }.copy(alloc)?;
-    assert_eq!(rt; copy.tables.len(), 1);
+    let db = Db { tables };
+    assert!(rt; db.copy(alloc)?.tables == db.tables);
     let schema = Schema {
         default_schema: Some(SqlText::of(alloc, "S")?),
         tables: three_tables(alloc)?,
