@@ -1,5 +1,5 @@
 -- Intervals of whole numbers, and arithmetic on their ends.
-use Rattle.std.specs.Prelude.{ℕ, ℤ, pos, neg_ℤ, nat_abs, ◌-ℤ◌, ◌≤ℤ◌, Bool, true, ◌&&◌, ◌||◌, int_lt, if◌then◌else◌, ⊤}
+use Rattle.std.specs.Prelude.{ℕ, ℤ, pos, neg_ℤ, nat_abs, ◌-ℤ◌, ◌≤ℤ◌, Bool, true, false, int_le, ◌&&◌, ◌||◌, int_lt, if◌then◌else◌, ⊤}
 use Rattle.std.specs.Int.{int_min, int_max}
 use Rattle.cal_value.specs.declared.interval.Interval.{Interval}
 use Rattle.cal_value.specs.declared.interval.Interval.TheVariants.{Never, Range}
@@ -13,6 +13,11 @@ limit = nat_abs NUMBER_LIMIT
 abbrev pub Holds : Interval → ℤ → Type 0
 Holds Never z = ⊥
 Holds (Range lo hi) z = (lo ≤ℤ z) × (z ≤ℤ hi)
+
+-- the same as a test
+abbrev pub holds : Interval → ℤ → Bool
+holds Never z = false
+holds (Range lo hi) z = int_le lo z && int_le z hi
 
 -- the lower end isn't above the upper one
 abbrev pub IsProper : Interval → Type 0

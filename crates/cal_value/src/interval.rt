@@ -119,7 +119,8 @@ fn quotient_at(a: i128, b: i128, c: i128, d: i128) -> Interval
 impl Interval {
     /// Whether the number is in the interval.
     pub fn holds(self, number: i128) -> bool
-        ensures { IsTrue result ↔ Holds self number }
+        ensures holds { IsTrue result ↔ Holds self number }
+        ensures test { result ≡ spec.holds self number }
     {
         match self {
             Interval::Never => false,

@@ -1,5 +1,5 @@
 -- What a file without a fault holds: the columns of a header, and the rows of a filled table.
-use Rattle.std.proofs.Common.{◌≡◌, ◌≢◌, ◌≤◌, ◌<◌, ◌+◌, ◌==◌, ℕ, zero, suc, ℤ, Bool, true, false, not, ◌&&◌, cond, List, [], ◌∷◌, ◌++◌, length, map, get_or, Option, Some, None, Result, Ok, Err, IfOk, refl, sym, ap, subst, ◌∙◌, arith, nat_lt, int_le, append_assoc, if◌then◌else◌}
+use Rattle.std.proofs.Common.{◌≡◌, ◌≢◌, ◌≤◌, ◌<◌, ◌+◌, ◌==◌, ℕ, zero, suc, ℤ, Bool, true, false, not, ◌&&◌, cond, List, [], ◌∷◌, ◌++◌, length, map, get_or, Option, Some, None, Result, Ok, Err, IfOk, refl, sym, ap, subst, ◌∙◌, arith, nat_lt, nat_le, int_le, append_assoc, if◌then◌else◌}
 use Rattle.std.specs.Prelude.{unwrap_or}
 use Rattle.std.specs.List.{list_any}
 use Rattle.std.specs.Str.{chars, is_utf8}
@@ -16,7 +16,8 @@ use Rattle.csv.specs.declared.parser.State.{State}
 use Rattle.csv.specs.declared.parser.State.TheVariants.{StartRecord}
 use Rattle.cal_value.specs.Equal.{row_eq}
 use Rattle.cal_value.specs.EqualLaws.{row_eq-Decides}
-use Rattle.cal_value.specs.Interval.{Holds}
+use Rattle.cal_value.specs.Interval.{Holds, holds}
+use Rattle.cal_value.specs.declared.limits.TheConstants.{COLUMN_LIMIT}
 use Rattle.cal_value.specs.Types.{HasTypes, IsOfType, text_type}
 use Rattle.cal_value.specs.declared.interval.Interval.{Interval}
 use Rattle.cal_value.specs.declared.interval.Interval.TheVariants.{Never, Range}
@@ -37,7 +38,7 @@ use Rattle.csv_tables.specs.declared.fault.CsvCause.{CsvCause}
 use Rattle.csv_tables.specs.declared.fault.CsvCause.TheVariants.{NullValue, BadBoolean, BadInteger, NotUtf8, WrongCount, KeyTaken, TooManyColumns, Repeated}
 use Rattle.csv_tables.specs.declared.fault.CsvFault.{CsvFault}
 use Rattle.csv_tables.specs.declared.fault.CsvFault.TheVariants.{TableFull}
-use Rattle.csv_tables.specs.Field.{is_empty, is_boolean, is_integer, is_number, number_of, is_within, value_of, null_cause, typed_cause, field_cause}
+use Rattle.csv_tables.specs.Field.{is_empty, is_boolean, is_integer, is_number, number_of, value_of, null_cause, typed_cause, field_cause}
 use Rattle.csv_tables.specs.Header.{Answers, all_records, fault_at, column_in, named_cause, header_cause, header_faults, columns_of, header_of}
 use Rattle.csv_tables.specs.Table.{values_of, row_of, field_faults, count_cause, has_key, key_cause, record_faults, row_faults, rows_faults, table_header_faults, table_in, table_of}
 use Rattle.csv_tables.proofs.HeaderLemmas.{header-room}
@@ -58,7 +59,7 @@ no_cause number column (Some cause) e = absurd (Prim.cc)
 null_value : (t : SqlType) → null_cause t ≡ None → IsOfType Null t
 null_value t e = (into_if t.nullable None (Some NullValue) None (λ f. Prim.cc) e).0
 
-within-holds : (i : Interval) (n : ℤ) → is_within i n ≡ true → Holds i n
+within-holds : (i : Interval) (n : ℤ) → holds i n ≡ true → Holds i n
 within-holds Never n e = Prim.cc
 within-holds (Range lo hi) n e =
     let p = and_parts (int_le lo n) (int_le n hi) e in
@@ -76,7 +77,7 @@ typed-integer : (t : SqlType) (field : List ℕ) (empty : Bool) → t.kind ≡ I
 typed-integer t field true k e = null_value t e
 typed-integer t field false k e =
     let inside = into_if (is_integer t.interval field) None (Some BadInteger) None (λ f. Prim.cc) e in
-    (k, within-holds t.interval (number_of field) (and_parts (is_number field) (is_within t.interval (number_of field)) inside.0).1)
+    (k, within-holds t.interval (number_of field) (and_parts (is_number field) (holds t.interval (number_of field)) inside.0).1)
 
 typed : (kind : Kind) (t : SqlType) (field : List ℕ) → t.kind ≡ kind → typed_cause kind t field ≡ None → IsOfType (value_of kind field) t
 typed TextKind t field k e = k
@@ -218,13 +219,13 @@ column-added earlier field are (Ok c) is e =
 
 header-added : (earlier : List ColumnDef) (field : List ℕ) → AreColumns earlier → header_cause earlier field ≡ None → AreColumns (earlier ++ column_in field ∷ [])
 header-added earlier field are e =
-    let few = past_if (nat_lt 31 (length earlier)) (Some TooManyColumns) (if is_utf8 field then named_cause earlier (column_of (chars field)) else Some NotUtf8) None (λ f. Prim.cc) e in
+    let few = past_if (nat_le COLUMN_LIMIT (length earlier)) (Some TooManyColumns) (if is_utf8 field then named_cause earlier (column_of (chars field)) else Some NotUtf8) None (λ f. Prim.cc) e in
     let text = into_if (is_utf8 field) (named_cause earlier (column_of (chars field))) (Some NotUtf8) None (λ f. Prim.cc) few.1 in
     column-added earlier field are (column_of (chars field)) refl text.1
 
 pub record IsNamed (cs : List ColumnDef) : Type 0 where
   pub columns : AreColumns cs
-  pub few : length cs ≤ 32
+  pub few : length cs ≤ COLUMN_LIMIT
 
 header-named : (earlier : List ColumnDef) (fields : List (List ℕ)) → IsNamed earlier → header_faults earlier fields ≡ [] → IsNamed (earlier ++ map column_in fields)
 header-named earlier [] are e = subst IsNamed (sym (append-nil earlier)) are

@@ -1,6 +1,7 @@
 -- The walk over the fields of a header.
-use Rattle.std.proofs.Common.{◌≡◌, ◌≤◌, ◌<◌, ◌+◌, ℕ, Bool, true, false, List, [], ◌∷◌, ◌++◌, length, map, Option, Some, None, Err, sym, ap, ◌∙◌, refl, arith, append_assoc, nat_lt, if◌then◌else◌}
-use Rattle.std.proofs.lemmas.Bool.{ltb-false}
+use Rattle.std.proofs.Common.{◌≡◌, ◌≤◌, ◌<◌, ◌+◌, ℕ, Bool, true, false, List, [], ◌∷◌, ◌++◌, length, map, Option, Some, None, Err, sym, ap, ◌∙◌, refl, arith, append_assoc, nat_le, if◌then◌else◌}
+use Rattle.std.proofs.lemmas.Bool.{leb-false}
+use Rattle.cal_value.specs.declared.limits.TheConstants.{COLUMN_LIMIT}
 use Rattle.std.specs.Str.{chars, is_utf8}
 use Rattle.cal_schema.specs.Column.{column_of}
 use Rattle.cal_schema.specs.declared.column.ColumnDef.{ColumnDef}
@@ -27,9 +28,9 @@ pub columns-step : (earlier : List ColumnDef) (fields rest : List (List ℕ)) (f
 columns-step earlier fields rest field e = append_assoc earlier (column_in field ∷ []) (map column_in rest) ∙ ap (λ (fs : List (List ℕ)). earlier ++ map column_in fs) (sym e)
 
 -- no 33rd column
-pub header-room : (earlier : List ColumnDef) (field : List ℕ) → header_cause earlier field ≡ None → length earlier < 32
-header-room earlier field none = by (nat_lt 31 (length earlier)) refl none
+pub header-room : (earlier : List ColumnDef) (field : List ℕ) → header_cause earlier field ≡ None → length earlier < COLUMN_LIMIT
+header-room earlier field none = by (nat_le COLUMN_LIMIT (length earlier)) refl none
   where
-    by : (b : Bool) → nat_lt 31 (length earlier) ≡ b → (if b then Some TooManyColumns else (if is_utf8 field then named_cause earlier (column_of (chars field)) else Some NotUtf8)) ≡ None → length earlier < 32
+    by : (b : Bool) → nat_le COLUMN_LIMIT (length earlier) ≡ b → (if b then Some TooManyColumns else (if is_utf8 field then named_cause earlier (column_of (chars field)) else Some NotUtf8)) ≡ None → length earlier < COLUMN_LIMIT
     by true e f = absurd (Prim.cc)
-    by false e f = let ge : length earlier ≤ 31 = ltb-false 31 (length earlier) e in omega arith
+    by false e f = leb-false COLUMN_LIMIT (length earlier) e

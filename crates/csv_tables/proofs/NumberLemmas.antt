@@ -15,7 +15,8 @@ use Rattle.std.specs.Int.RustNames.{FitsSigned}
 use Rattle.std.specs.Str.{all_ascii_digits}
 use Rattle.std.specs.Str.Parse.{IsNumeral, digits_value, signed_digits_value, without_leading_sign}
 use Rattle.cal_value.specs.declared.interval.Interval.TheVariants.{Range}
-use Rattle.csv_tables.specs.Field.{is_empty, is_number, number_of, is_within, is_integer}
+use Rattle.csv_tables.specs.Field.{is_empty, is_number, number_of, is_integer}
+use Rattle.cal_value.specs.Interval.{holds}
 
 own : IsNumeralModel (λ ds. all_ascii_digits ds ≡ true) (digits_value 10)
 own = numerals_by_value (λ ds. all_ascii_digits ds ≡ true) tells_all_ascii_digits
@@ -54,7 +55,7 @@ answer b text = if b then Ok (Int (number_of text)) else Err (Bad BadInteger)
 is-integer-at : (text : List ℕ) (lo hi n : ℤ) → IsReadAs text n → is_integer (Range lo hi) text ≡ (int_le lo n && int_le n hi)
 unfolding is_number number_of
 is-integer-at text lo hi n h =
-    ap (λ b. b && is_within (Range lo hi) (signed_digits_value 10 text)) (numeral-yes (without_leading_sign text) h.0.0)
+    ap (λ b. b && holds (Range lo hi) (signed_digits_value 10 text)) (numeral-yes (without_leading_sign text) h.0.0)
     ∙ ap (λ z. int_le lo z && int_le z hi) (sym h.1)
 
 fits-read : (text : List ℕ) (n : ℤ) → IsReadAs text n → FitsSigned w128 n

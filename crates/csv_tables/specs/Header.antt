@@ -1,8 +1,9 @@
 -- The first record of a file: the columns that it names, or its first fault.
-use Rattle.std.specs.Prelude.{◌≡◌, true, ℕ, ◌+◌, nat_lt, List, [], ◌∷◌, ◌++◌, length, map, Option, Some, None, Result, Ok, Err, if◌then◌else◌, unwrap_or, ⊤}
+use Rattle.std.specs.Prelude.{◌≡◌, true, ℕ, ◌+◌, nat_le, List, [], ◌∷◌, ◌++◌, length, map, Option, Some, None, Result, Ok, Err, if◌then◌else◌, unwrap_or, ⊤}
 use Rattle.std.specs.List.{list_any}
 use Rattle.std.specs.Str.{chars, is_utf8}
 use Rattle.csv.specs.Reading.{default_config, records, strip_bom}
+use Rattle.cal_value.specs.declared.limits.TheConstants.{COLUMN_LIMIT}
 use Rattle.cal_value.specs.Types.{text_type}
 use Rattle.cal_schema.specs.declared.column.ColumnDef.{ColumnDef}
 use Rattle.cal_schema.specs.declared.column.ColumnFault.{ColumnFault}
@@ -12,8 +13,6 @@ use Rattle.csv_tables.specs.declared.fault.CsvCause.{CsvCause}
 use Rattle.csv_tables.specs.declared.fault.CsvCause.TheVariants.{NoHeader, TooManyColumns, NotUtf8, BadHeader, Repeated}
 use Rattle.csv_tables.specs.declared.fault.CsvFault.{CsvFault}
 use Rattle.csv_tables.specs.declared.fault.CsvFault.TheVariants.{CsvBad, TableFull, NoMemory}
-use Rattle.csv_tables.specs.declared.fault.FieldFault.{FieldFault}
-use Rattle.csv_tables.specs.declared.fault.FieldFault.TheVariants.{Bad, NoMemory as NoMemoryThere}
 
 -- all records of a file, with the first, each the list of its fields
 abbrev pub all_records : List ℕ → List (List (List ℕ))
@@ -47,7 +46,7 @@ named_cause earlier (Ok column) = if list_any (λ e. is_same_name e.name column.
 -- why a field names no further column after these
 abbrev pub header_cause : List ColumnDef → List ℕ → Option CsvCause
 header_cause earlier field =
-    if nat_lt 31 (length earlier) then Some TooManyColumns
+    if nat_le COLUMN_LIMIT (length earlier) then Some TooManyColumns
     else if is_utf8 field then named_cause earlier (column_of (chars field))
     else Some NotUtf8
 
@@ -64,9 +63,3 @@ columns_of (fields ∷ records) = told (header_faults [] fields) (map column_in 
 -- the columns that a file names, or the first fault of its header
 abbrev pub header_of : List ℕ → Result (List ColumnDef) CsvFault
 header_of bytes = columns_of (all_records bytes)
-
--- the answer is the column of the field, or the cause, or want of memory
-abbrev pub ColumnAnswers : List ColumnDef → List ℕ → Result ColumnDef FieldFault → Type 0
-ColumnAnswers earlier field (Ok column) = (header_cause earlier field ≡ None) × (column ≡ column_in field)
-ColumnAnswers earlier field (Err (Bad cause)) = header_cause earlier field ≡ Some cause
-ColumnAnswers earlier field (Err NoMemoryThere) = ⊤

@@ -1,4 +1,5 @@
 pub mod Field
 pub mod Header
 pub mod Left
+pub mod Parts
 pub mod Table

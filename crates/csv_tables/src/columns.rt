@@ -4,6 +4,7 @@ ghost use Rattle.cal_schema.specs.Lookup.{is_same_name};
 ghost use Rattle.cal_schema.specs.Valid.{IsHeader};
 ghost use Rattle.csv.specs.Records.{fields_of};
 ghost use Rattle.csv_tables.specs.Header as spec;
+ghost use Rattle.csv_tables.specs.Parts.{ColumnAnswers};
 ghost use Rattle.csv_tables.specs.declared.fault.CsvCause.TheVariants.{NoHeader};
 ghost use Rattle.csv_tables.specs.declared.fault.CsvFault.TheVariants.{CsvBad};
 
@@ -11,25 +12,23 @@ use crate::fault::{CsvCause, CsvFault, FieldFault};
 use crate::field::as_text;
 use crate::reading::{field_at, next, open};
 use cal_schema::{ColumnDef, ColumnFault};
-use cal_value::List;
+use cal_value::{COLUMN_LIMIT, List};
 use csv::ByteRecord;
 use std::alloc::Global;
-
-/// How many columns a table may have.
-const COLUMN_LIMIT: usize = 32;
 
 /// The columns that the first record names. NULL may stand in each of them.
 pub fn header(alloc: Global, bytes: &[u8]) -> Result<List<ColumnDef>, CsvFault>
     ensures answer { spec.Answers (spec.header_of bytes.now) result }
     ensures header { IfOk result IsHeader }
-    ensures few { IfOk result (λ columns. length columns ≤ 32) }
+    ensures few { IfOk result (λ columns. length columns ≤ COLUMN_LIMIT) }
 {
     let mut reader = open(alloc, bytes);
-    let mut record = ByteRecord::new(alloc);
-    match next(&mut reader, &mut record) {
-        Err(_) => Err(CsvFault::NoMemory),
-        Ok(false) => Err(no_header()),
-        Ok(true) => columns_in(alloc, &record),
+    let mut raw = ByteRecord::new(alloc);
+    let found = next(&mut reader, &mut raw)?;
+    if found {
+        columns_in(alloc, &raw)
+    } else {
+        Err(no_header())
     }
 }
 
@@ -44,18 +43,15 @@ pub(crate) fn no_header() -> CsvFault
 }
 
 /// The columns that a record names.
-pub(crate) fn columns_in(alloc: Global, record: &ByteRecord) -> Result<List<ColumnDef>, CsvFault>
-    ensures answer { spec.Answers (spec.told (spec.header_faults [] (fields_of record.now)) (map spec.column_in (fields_of record.now))) result }
-    ensures few { IfOk result (λ columns. length columns ≤ 32) }
+pub(crate) fn columns_in(alloc: Global, raw: &ByteRecord) -> Result<List<ColumnDef>, CsvFault>
+    ensures answer { let fields = fields_of raw.now in
+        spec.Answers (spec.told (spec.header_faults [] fields) (map spec.column_in fields)) result }
+    ensures few { IfOk result (λ columns. length columns ≤ COLUMN_LIMIT) }
 {
     let mut columns = List::new(alloc);
-    for at in 0..record.len() {
-        match next_column(alloc, &columns, field_at(record, at)) {
-            Ok(column) => {
-                let Ok(()) = columns.push(column) else {
-                    return Err(CsvFault::NoMemory);
-                };
-            }
+    for at in 0..raw.len() {
+        match next_column(alloc, &columns, field_at(raw, at)) {
+            Ok(column) => columns.push(column)?,
             Err(FieldFault::NoMemory) => return Err(CsvFault::NoMemory),
             Err(FieldFault::Bad(cause)) => {
                 return Err(CsvFault::CsvBad {
@@ -75,9 +71,9 @@ fn next_column(
     earlier: &List<ColumnDef>,
     field: &[u8],
 ) -> Result<ColumnDef, FieldFault>
-    ensures { spec.ColumnAnswers earlier.now field.now result }
+    ensures { ColumnAnswers earlier.now field.now result }
 {
-    if earlier.len() >= COLUMN_LIMIT {
+    if earlier.len() >= COLUMN_LIMIT as usize {
         return Err(FieldFault::Bad(CsvCause::TooManyColumns));
     }
     let Some(text) = as_text(field) else {

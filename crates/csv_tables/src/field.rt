@@ -2,10 +2,11 @@ ghost use Rattle.std.specs.Prelude.{◌≡◌, true, false, map, if◌then◌els
 ghost use Rattle.std.specs.Char.{to_ascii_lowercase};
 ghost use Rattle.std.specs.Str.{is_utf8};
 ghost use Rattle.cal_value.specs.declared.interval.Interval.TheVariants.{Range};
-ghost use Rattle.cal_value.specs.declared.value.Value.TheVariants.{Null, Bool as BoolValue, Int};
-ghost use Rattle.csv_tables.specs.declared.fault.CsvCause.TheVariants.{BadBoolean, BadInteger, NullValue};
+ghost use Rattle.cal_value.specs.declared.value.Value.TheVariants.{Null, Bool as BoolValue};
+ghost use Rattle.csv_tables.specs.declared.fault.CsvCause.TheVariants.{BadBoolean, NullValue};
 ghost use Rattle.csv_tables.specs.declared.fault.FieldFault.TheVariants.{Bad};
 ghost use Rattle.csv_tables.specs.Field as spec;
+ghost use Rattle.csv_tables.specs.Parts as parts;
 
 use crate::fault::{CsvCause, FieldFault};
 use cal_value::{Interval, Kind, SqlText, SqlType, TextFault, Value};
@@ -13,7 +14,7 @@ use std::alloc::Global;
 
 /// The value of a field in a column of this type.
 pub(crate) fn field_value(alloc: Global, kind: SqlType, field: &[u8]) -> Result<Value, FieldFault>
-    ensures { spec.FieldSays kind field.now result }
+    ensures { parts.FieldSays kind field.now result }
 {
     let Some(text) = as_text(field) else {
         return Err(FieldFault::Bad(CsvCause::NotUtf8));
@@ -39,7 +40,8 @@ pub(crate) fn field_value(alloc: Global, kind: SqlType, field: &[u8]) -> Result<
 
 #[tactic(auto, using(crate::proofs::FieldLemmas::is_text, crate::proofs::FieldLemmas::is_no_text))]
 pub(crate) fn as_text(field: &[u8]) -> Option<&str>
-    ensures { MatchOption result (is_utf8 field.now ≡ false) (λ text. (is_utf8 field.now ≡ true) × (text.now ≡ field.now)) }
+    ensures { MatchOption result (is_utf8 field.now ≡ false)
+        (λ text. (is_utf8 field.now ≡ true) × (text.now ≡ field.now)) }
 {
     match str::from_utf8(field) {
         Ok(text) => Some(text),
@@ -48,7 +50,7 @@ pub(crate) fn as_text(field: &[u8]) -> Option<&str>
 }
 
 fn text_value(alloc: Global, text: &str) -> Result<Value, FieldFault>
-    ensures { spec.TextSays text.now result }
+    ensures { parts.TextSays text.now result }
 {
     match SqlText::of(alloc, text) {
         Ok(text) => Ok(Value::Text(text)),
@@ -75,7 +77,8 @@ fn is_word(text: &str, word: &str) -> bool
 }
 
 fn boolean_value(text: &str) -> Result<Value, FieldFault>
-    ensures { result ≡ (if spec.is_boolean text.now then Ok (BoolValue (spec.is_word text.now (codes "true"))) else Err (Bad BadBoolean)) }
+    ensures { let is_true = spec.is_word text.now (codes "true") in
+        result ≡ (if spec.is_boolean text.now then Ok (BoolValue is_true) else Err (Bad BadBoolean)) }
 {
     if is_word(text, "true") {
         Ok(Value::Bool(true))
@@ -87,7 +90,7 @@ fn boolean_value(text: &str) -> Result<Value, FieldFault>
 }
 
 fn integer_value(text: &str, interval: Interval) -> Result<Value, FieldFault>
-    ensures { result ≡ (if spec.is_integer interval text.now then Ok (Int (spec.number_of text.now)) else Err (Bad BadInteger)) }
+    ensures { result ≡ parts.number_in interval text.now }
 {
     match interval {
         Interval::Never => Err(FieldFault::Bad(CsvCause::BadInteger)),
@@ -96,7 +99,7 @@ fn integer_value(text: &str, interval: Interval) -> Result<Value, FieldFault>
 }
 
 fn number_between(text: &str, lo: i128, hi: i128) -> Result<Value, FieldFault>
-    ensures { result ≡ (if spec.is_integer (Range lo hi) text.now then Ok (Int (spec.number_of text.now)) else Err (Bad BadInteger)) }
+    ensures { result ≡ parts.number_in (Range lo hi) text.now }
 {
     match text.parse::<i128>() {
         Ok(number) if lo <= number && number <= hi => Ok(Value::Int(number)),

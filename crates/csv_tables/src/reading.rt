@@ -19,24 +19,25 @@ pub(crate) fn open(alloc: Global, bytes: &[u8]) -> Reader<&[u8]>
         .from_reader(alloc, bytes)
 }
 
-/// Reads the next record into `record`, and says whether there was one.
-pub(crate) fn next(reader: &mut Reader<&[u8]>, record: &mut ByteRecord) -> Result<bool, NoMemory>
+/// Reads the next record, and says whether there was one.
+pub(crate) fn next(reader: &mut Reader<&[u8]>, into: &mut ByteRecord) -> Result<bool, NoMemory>
     requires { IsPlain reader.old }
     ensures plain { IfOk result (λ found. found ≡ true → IsPlain reader.new) }
-    ensures next { IfOk result (λ found. IsNext (left_of reader.old) found (fields_of record.new) (left_of reader.new)) }
+    ensures next { IfOk result (λ found.
+        IsNext (left_of reader.old) found (fields_of into.new) (left_of reader.new)) }
 {
-    let Ok(found) = reader.read_byte_record(record) else {
+    let Ok(found) = reader.read_byte_record(into) else {
         return Err(NoMemory);
     };
     Ok(found)
 }
 
 /// The field at this place of a record, counted from 0.
-pub(crate) fn field_at(record: &ByteRecord, at: usize) -> &[u8]
-    requires { at < length (fields_of record.now) }
-    ensures { drop at (fields_of record.now) ≡ result.now ∷ drop (at + 1) (fields_of record.now) }
+pub(crate) fn field_at(raw: &ByteRecord, at: usize) -> &[u8]
+    requires { at < length (fields_of raw.now) }
+    ensures { drop at (fields_of raw.now) ≡ result.now ∷ drop (at + 1) (fields_of raw.now) }
 {
-    match record.get(at) {
+    match raw.get(at) {
         Some(field) => field,
         None => unreachable!(),
     }

@@ -1,10 +1,7 @@
-ghost use Rattle.std.specs.Prelude.{◌≡◌, ◌≤◌, ◌<◌, ◌+◌, ◌^◌, true, [], ◌∷◌, ◌++◌, Ok, length, map, IfOk, OnOk};
-ghost use Rattle.std.specs.Ordering.{int_eq};
+ghost use Rattle.std.specs.Prelude.{◌≡◌, ◌≤◌, ◌<◌, ◌+◌, true, [], ◌∷◌, ◌++◌, length, IfOk, OnOk};
 ghost use Rattle.csv.specs.Records.{fields_of};
-ghost use Rattle.cal_value.specs.Order.{column_of};
-ghost use Rattle.cal_value.specs.Types.{same_kind};
 ghost use Rattle.cal_schema.specs.Fits.{key_of, IsFilledBy};
-ghost use Rattle.csv_tables.specs.Header.{Answers, told, column_in, header_faults};
+ghost use Rattle.csv_tables.specs.Header.{Answers, told};
 ghost use Rattle.csv_tables.specs.Left.{IsPlain, left_of};
 ghost use Rattle.csv_tables.specs.Table as spec;
 
@@ -13,47 +10,43 @@ use crate::fault::{CsvCause, CsvFault, FieldFault};
 use crate::field::field_value;
 use crate::reading::{field_at, next, open};
 use cal_schema::{ColumnDef, TableDef};
-use cal_value::{Duplicate, Interval, Kind, List, NoMemory, Row, Value};
+use cal_value::{COLUMN_LIMIT, Interval, List, ROW_LIMIT, Row, values_at};
 use csv::{ByteRecord, Reader};
 use indexmap::IndexSet;
 use std::alloc::Global;
 
 /// The rows of the table's file, or the first fault that it has as such a file.
 pub fn decode(alloc: Global, bytes: &[u8], table: &TableDef) -> Result<List<Row>, CsvFault>
-    requires few_columns { length table.now.columns ≤ 32 }
-    requires few_rows { table.now.max_rows ≤ 2 ^ 20 }
+    requires few_columns { length table.now.columns ≤ COLUMN_LIMIT }
+    requires few_rows { table.now.max_rows ≤ ROW_LIMIT }
     ensures rows { Answers (spec.table_of bytes.now table.now) result }
     ensures filled { IfOk result (IsFilledBy table.now) }
 {
     let mut reader = open(alloc, bytes);
-    let mut record = ByteRecord::new(alloc);
-    match next(&mut reader, &mut record) {
-        Err(_) => Err(CsvFault::NoMemory),
-        Ok(false) => Err(no_header()),
-        Ok(true) => match check_header(alloc, &record, table) {
-            Err(fault) => Err(fault),
-            Ok(()) => rows_in(alloc, &mut reader, &mut record, table),
-        },
+    let mut raw = ByteRecord::new(alloc);
+    let found = next(&mut reader, &mut raw)?;
+    if found {
+        check_header(alloc, &raw, table)?;
+        rows_in(alloc, &mut reader, &mut raw, table)
+    } else {
+        Err(no_header())
     }
 }
 
 // Whether the record is a header of this table.
-fn check_header(alloc: Global, record: &ByteRecord, table: &TableDef) -> Result<(), CsvFault>
-    ensures { Answers (told (spec.table_header_faults table.now (fields_of record.now)) tt) result }
+fn check_header(alloc: Global, raw: &ByteRecord, table: &TableDef) -> Result<(), CsvFault>
+    ensures { let fields = fields_of raw.now in
+        Answers (told (spec.table_header_faults table.now fields) tt) result }
 {
-    match columns_in(alloc, record) {
-        Err(fault) => Err(fault),
-        Ok(columns) => {
-            if is_header_of(&table.columns, &columns) {
-                Ok(())
-            } else {
-                Err(CsvFault::CsvBad {
-                    at_record: 1,
-                    column: 0,
-                    cause: CsvCause::HeaderChanged,
-                })
-            }
-        }
+    let columns = columns_in(alloc, raw)?;
+    if is_header_of(&table.columns, &columns) {
+        Ok(())
+    } else {
+        Err(CsvFault::CsvBad {
+            at_record: 1,
+            column: 0,
+            cause: CsvCause::HeaderChanged,
+        })
     }
 }
 
@@ -75,19 +68,8 @@ fn is_same_column(a: &ColumnDef, b: &ColumnDef) -> bool
     ensures { result ≡ spec.is_same_column a.now b.now }
 {
     a.name == b.name
-        && is_same_kind(a.kind.kind, b.kind.kind)
+        && a.kind.kind.is(b.kind.kind)
         && is_same_interval(a.kind.interval, b.kind.interval)
-}
-
-fn is_same_kind(a: Kind, b: Kind) -> bool
-    ensures { result ≡ same_kind a b }
-{
-    match (a, b) {
-        (Kind::Boolean, Kind::Boolean)
-        | (Kind::Integer, Kind::Integer)
-        | (Kind::Text, Kind::Text) => true,
-        _ => false,
-    }
 }
 
 fn is_same_interval(a: Interval, b: Interval) -> bool
@@ -110,38 +92,34 @@ fn is_same_interval(a: Interval, b: Interval) -> bool
 fn rows_in(
     alloc: Global,
     reader: &mut Reader<&[u8]>,
-    record: &mut ByteRecord,
+    raw: &mut ByteRecord,
     table: &TableDef,
 ) -> Result<List<Row>, CsvFault>
     requires plain { IsPlain reader.old }
-    requires few_columns { length table.now.columns ≤ 32 }
-    requires few_rows { table.now.max_rows ≤ 2 ^ 20 }
+    requires few_columns { length table.now.columns ≤ COLUMN_LIMIT }
+    requires few_rows { table.now.max_rows ≤ ROW_LIMIT }
     ensures { Answers (spec.rows_after_header table.now (left_of reader.old)) result }
 {
     let mut rows = List::new(alloc);
     let mut keys = IndexSet::new(alloc);
     for _ in 0..table.max_rows {
-        match next(reader, record) {
-            Err(_) => return Err(CsvFault::NoMemory),
-            Ok(false) => return Ok(rows),
-            Ok(true) => {}
+        let found = next(reader, raw)?;
+        if !found {
+            return Ok(rows);
         }
         let number = rows.len() as u64 + 2;
-        match record_row(alloc, table, number, record, &mut keys) {
+        match record_row(alloc, table, number, raw, &mut keys) {
+            Ok(row) => rows.push(row)?,
             Err(fault) => return Err(fault),
-            Ok(row) => {
-                let Ok(()) = rows.push(row) else {
-                    return Err(CsvFault::NoMemory);
-                };
-            }
         }
     }
-    match next(reader, record) {
-        Err(_) => Err(CsvFault::NoMemory),
-        Ok(false) => Ok(rows),
-        Ok(true) => Err(CsvFault::TableFull {
+    let more = next(reader, raw)?;
+    if more {
+        Err(CsvFault::TableFull {
             limit: table.max_rows,
-        }),
+        })
+    } else {
+        Ok(rows)
     }
 }
 
@@ -150,39 +128,35 @@ fn record_row(
     alloc: Global,
     table: &TableDef,
     number: u64,
-    record: &ByteRecord,
+    raw: &ByteRecord,
     keys: &mut IndexSet<Row>,
 ) -> Result<Row, CsvFault>
-    requires { length table.now.columns ≤ 32 }
-    ensures row { Answers (told (spec.record_faults table.now number keys.old.keys (fields_of record.now)) (spec.row_of table.now (fields_of record.now))) result }
-    ensures keys { OnOk result (spec.has_key table.now ≡ true → keys.new.keys ≡ keys.old.keys ++ key_of table.now (spec.row_of table.now (fields_of record.now)) ∷ []) }
+    requires { length table.now.columns ≤ COLUMN_LIMIT }
+    ensures row { let fields = fields_of raw.now in
+        let faults = spec.record_faults table.now number keys.old.keys fields in
+        Answers (told faults (spec.row_of table.now fields)) result }
+    ensures keys { let key = key_of table.now (spec.row_of table.now (fields_of raw.now)) in
+        OnOk result (spec.has_key table.now ≡ true → keys.new.keys ≡ keys.old.keys ++ key ∷ []) }
 {
-    if record.len() != table.columns.len() {
+    if raw.len() != table.columns.len() {
         return Err(CsvFault::CsvBad {
             at_record: number,
             column: 0,
             cause: CsvCause::WrongCount,
         });
     }
-    match row_values(alloc, &table.columns, number, record) {
-        Err(fault) => Err(fault),
-        Ok(row) => {
-            if table.primary_key.is_empty() {
-                return Ok(row);
-            }
-            match key_in(alloc, table, &row) {
-                Err(_) => Err(CsvFault::NoMemory),
-                Ok(key) => match keys.insert_full(key) {
-                    Err(_) => Err(CsvFault::NoMemory),
-                    Ok((_, true)) => Ok(row),
-                    Ok((_, false)) => Err(CsvFault::CsvBad {
-                        at_record: number,
-                        column: 0,
-                        cause: CsvCause::KeyTaken,
-                    }),
-                },
-            }
-        }
+    let row = row_values(alloc, &table.columns, number, raw)?;
+    if table.primary_key.is_empty() {
+        return Ok(row);
+    }
+    let key = values_at(alloc, &row, table.primary_key.as_slice())?;
+    match keys.insert_full(key)? {
+        (_, true) => Ok(row),
+        (_, false) => Err(CsvFault::CsvBad {
+            at_record: number,
+            column: 0,
+            cause: CsvCause::KeyTaken,
+        }),
     }
 }
 
@@ -191,20 +165,18 @@ fn row_values(
     alloc: Global,
     columns: &List<ColumnDef>,
     number: u64,
-    record: &ByteRecord,
+    raw: &ByteRecord,
 ) -> Result<Row, CsvFault>
-    requires few { length columns.now ≤ 32 }
-    requires count { length (fields_of record.now) ≡ length columns.now }
-    ensures { Answers (told (spec.field_faults number 1 columns.now (fields_of record.now)) (spec.values_of columns.now (fields_of record.now))) result }
+    requires few { length columns.now ≤ COLUMN_LIMIT }
+    requires count { length (fields_of raw.now) ≡ length columns.now }
+    ensures { let fields = fields_of raw.now in
+        let faults = spec.field_faults number 1 columns.now fields in
+        Answers (told faults (spec.values_of columns.now fields)) result }
 {
     let mut row = List::new(alloc);
     for at in 0..columns.len() {
-        match field_value(alloc, columns.as_slice()[at].kind, field_at(record, at)) {
-            Ok(value) => {
-                let Ok(()) = row.push(value) else {
-                    return Err(CsvFault::NoMemory);
-                };
-            }
+        match field_value(alloc, columns.as_slice()[at].kind, field_at(raw, at)) {
+            Ok(value) => row.push(value)?,
             Err(FieldFault::NoMemory) => return Err(CsvFault::NoMemory),
             Err(FieldFault::Bad(cause)) => {
                 return Err(CsvFault::CsvBad {
@@ -216,25 +188,4 @@ fn row_values(
         }
     }
     Ok(row)
-}
-
-// The row's values in the columns of the primary key.
-fn key_in(alloc: Global, table: &TableDef, row: &Row) -> Result<Row, NoMemory>
-    ensures { IfOk result (λ key. key ≡ key_of table.now row.now) }
-{
-    let mut key = List::new(alloc);
-    for column in table.primary_key.as_slice() {
-        let value = value_at(alloc, row, *column as usize)?;
-        key.push(value)?;
-    }
-    Ok(key)
-}
-
-fn value_at(alloc: Global, row: &Row, at: usize) -> Result<Value, NoMemory>
-    ensures { IfOk result (λ value. value ≡ column_of row.now at) }
-{
-    match row.get(at) {
-        Some(value) => value.copy(alloc),
-        None => Ok(Value::Null),
-    }
 }

@@ -2,14 +2,14 @@ ghost use Rattle.std.specs.Prelude.{◌≤◌, IfOk, length};
 
 use crate::{CsvCause, CsvFault, decode, header};
 use cal_schema::{AdapterKind, ColumnDef, TableDef};
-use cal_value::{List, Row, SqlText, Value};
+use cal_value::{COLUMN_LIMIT, List, Row, SqlText, Value};
 use std::alloc::Global;
 use std::test::Fail;
 
 // A table of at most three rows of these columns, whose first column is its key where there is one.
 fn a_table(alloc: Global, columns: List<ColumnDef>, keyed: bool) -> Result<TableDef, CsvFault>
-    requires { length columns ≤ 32 }
-    ensures columns { IfOk result (λ table. length table.columns ≤ 32) }
+    requires { length columns ≤ COLUMN_LIMIT }
+    ensures columns { IfOk result (λ table. length table.columns ≤ COLUMN_LIMIT) }
     ensures rows { IfOk result (λ table. table.max_rows ≤ 3) }
 {
     let mut primary_key = List::new(alloc);
@@ -29,8 +29,8 @@ fn a_table(alloc: Global, columns: List<ColumnDef>, keyed: bool) -> Result<Table
 
 // Takes NULL from the first column.
 fn without_null(columns: List<ColumnDef>) -> List<ColumnDef>
-    requires { length columns ≤ 32 }
-    ensures { length result ≤ 32 }
+    requires { length columns ≤ COLUMN_LIMIT }
+    ensures { length result ≤ COLUMN_LIMIT }
 {
     let mut columns = columns.into_vec();
     if columns.len() > 0 {
@@ -222,7 +222,7 @@ fn long_text(alloc: Global, count: usize) -> Result<Vec<u8>, Fail> {
 }
 
 #[test]
-fn a_text_has_4000_characters(rt: HostRuntime) -> Result<(), Fail> {
+fn the_longest_text(rt: HostRuntime) -> Result<(), Fail> {
     let alloc = rt.alloc();
     let most = long_text(alloc, 4000)?;
     assert_eq!(rt; rows_of(alloc, most.as_slice(), false)?.len(), 1);

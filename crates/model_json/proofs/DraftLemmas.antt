@@ -1,5 +1,5 @@
 -- What the first walk answers: tables that are valid but for the columns of files.
-use Rattle.std.proofs.Common.{◌≡◌, ◌<◌, ◌≤◌, ◌+◌, ◌&&◌, ◌^◌, ℕ, suc, true, false, List, [], ◌∷◌, ◌++◌, length, get_or, Option, Some, None, Result, Ok, All, AllPairs, refl, sym, ap, subst, ◌∙◌, arith, inl, inr, nat_lt, nat_le, codes, if◌then◌else◌}
+use Rattle.std.proofs.Common.{◌≡◌, ◌<◌, ◌≤◌, ◌+◌, ◌&&◌, ◌^◌, ℕ, suc, true, false, List, [], ◌∷◌, ◌++◌, length, get_or, Option, Some, None, Result, Ok, IfSome, All, AllPairs, refl, sym, ap, subst, ◌∙◌, arith, inl, inr, nat_lt, nat_le, codes, if◌then◌else◌}
 use Rattle.std.specs.List.{list_any}
 use Rattle.std.specs.Str.{chars}
 use Rattle.std.proofs.lemmas.Bool.{ltb-false, leb-true, and_parts, or_left, or_right}
@@ -10,23 +10,25 @@ use Rattle.std.proofs.lemmas.List.Kept.{AllPairs-cons}
 use Rattle.std.proofs.lemmas.List.Quantifiers.{all_pairs_push}
 use Rattle.serde_json.specs.Data.{Data, Items}
 use Rattle.serde_json.specs.Find.{as_number, as_str, as_u64}
+use Rattle.cal_value.specs.declared.limits.TheConstants.{NAME_LIMIT, ROW_LIMIT, TABLE_LIMIT, TEXT_LIMIT}
 use Rattle.cal_value.specs.declared.value.Value.{Value}
 use Rattle.cal_schema.specs.declared.column.ColumnDef.{ColumnDef}
 use Rattle.cal_schema.specs.declared.table.AdapterKind.{AdapterKind}
 use Rattle.cal_schema.specs.declared.table.AdapterKind.TheVariants.{Csv, Mem}
+use Rattle.cal_schema.specs.File.{IsFileOf, is_compressed}
 use Rattle.cal_schema.specs.Lookup.{is_same_name}
 use Rattle.cal_schema.specs.Valid.{IsHeader, HaveTwoNames}
 use Rattle.cal_schema.proofs.ColumnLemmas.{past_if, into_if, none_passes, is_same}
 use Rattle.model_json.specs.declared.draft.Contents.{Contents}
 use Rattle.model_json.specs.declared.draft.Draft.{Draft}
 use Rattle.model_json.specs.declared.draft.Drafts.{Drafts}
-use Rattle.model_json.specs.declared.fault.ModelCause.TheVariants.{BadValue, Repeated, TooMany, TextTooLong}
+use Rattle.model_json.specs.declared.fault.ModelCause.TheVariants.{BadValue, Repeated, TooMany, Compressed, NoSuchName, TextTooLong}
 use Rattle.model_json.specs.declared.fault.ModelFault.{ModelFault}
 use Rattle.model_json.specs.Reading.{◌>>=◌, bad, each, optional, under}
-use Rattle.model_json.specs.Kinds.{of_kind, a_list, an_object, name, short, word, count}
+use Rattle.model_json.specs.Kinds.{of_kind, a_list, an_object, name, text, short, word, count}
 use Rattle.model_json.specs.Rows.{columns, rows, primary_key, keyed, keys_apart}
-use Rattle.model_json.specs.Tables.{row_limit, max_rows, most_rows, file_at, csv_operand, columns_at, rows_at, row_key, mem_operand, contents_of, operand, operand_at, is_draft_named, table_name, name_at, factory_at, draft_of, table, table_list, tables}
-use Rattle.model_json.specs.Schemas.{Seen, seen, with_name, schema_name, schema_name_at, name_added, tables_at, schema, nothing_seen, schemas, schema_tables, all_schemas, a_document, schemas_at, default_at, first_walk}
+use Rattle.model_json.specs.Tables.{row_limit, max_rows, most_rows, file, file_at, csv_operand, columns_at, rows_at, row_key, mem_operand, contents_of, operand, operand_at, is_draft_named, table_name, name_at, factory_at, draft_of, table, table_list, tables}
+use Rattle.model_json.specs.Schemas.{Seen, seen, with_name, schema_name, schema_name_at, name_added, tables_at, schema, nothing_seen, schemas, schema_tables, all_schemas, a_document, has_schema, schema_named, schemas_at, default_schema, default_at, first_walk}
 use Rattle.model_json.proofs.AnswerLemmas.{steps, under-is, field-is, optional-is, each-keeps, each-count, turns-keep}
 use Rattle.model_json.proofs.KeyLemmas.{columns-header, primary_key-is, header-keyed, HasColumns, IsKeyOf}
 use Rattle.model_json.proofs.FilledLemmas.{Fills, AreRowsOf, header-nulls, rows-typed, rows-fill}
@@ -39,29 +41,50 @@ short-is limit s t e =
     let same : s ≡ t = Prim.cc (p.1) in
     subst (λ (u : List ℕ). length (chars u) ≤ limit) same (ltb-false limit (length (chars s)) p.0)
 
-name-short : (d : Data) (s : List ℕ) → name d ≡ Ok s → length (chars s) ≤ 128
-name-short d s e = let p = steps (of_kind (as_str d)) (short 128) s e in short-is 128 p.found s p.then
+name-short : (d : Data) (s : List ℕ) → name d ≡ Ok s → length (chars s) ≤ NAME_LIMIT
+name-short d s e = let p = steps (of_kind (as_str d)) (short NAME_LIMIT) s e in short-is NAME_LIMIT p.found s p.then
+
+text-short : (d : Data) (s : List ℕ) → text d ≡ Ok s → length (chars s) ≤ TEXT_LIMIT
+text-short d s e = let p = steps (of_kind (as_str d)) (short TEXT_LIMIT) s e in short-is TEXT_LIMIT p.found s p.then
 
 -- at least one row, and at most 2^20
 pub record IsLimit (n : ℕ) : Type 0 where
   pub some : 0 < n
-  pub few : n ≤ 2 ^ 20
+  pub few : n ≤ ROW_LIMIT
 
 row_limit-is : (o : Option ℕ) (n : ℕ) → row_limit o ≡ Ok n → IsLimit n
 row_limit-is None n e = absurd (Prim.cc)
 row_limit-is (Some m) n e =
-    let p = into_if (nat_le 1 m && nat_le m 1048576) (Ok m) (bad BadValue) (Ok n) (λ f. Prim.cc) e in
-    let both = and_parts (nat_le 1 m) (nat_le m 1048576) p.0 in
+    let p = into_if (nat_le 1 m && nat_le m ROW_LIMIT) (Ok m) (bad BadValue) (Ok n) (λ f. Prim.cc) e in
+    let both = and_parts (nat_le 1 m) (nat_le m ROW_LIMIT) p.0 in
     let low : 1 ≤ m = leb-true 1 m both.0 in
-    let high : m ≤ 1048576 = leb-true m 1048576 both.1 in
+    let high : m ≤ ROW_LIMIT = leb-true m ROW_LIMIT both.1 in
     let same : m ≡ n = Prim.cc (p.1) in
     subst IsLimit same (record { some = omega arith; few = omega arith })
 
 most-limit : (operand : Data) (n : ℕ) → most_rows operand ≡ Ok n → IsLimit n
-most-limit operand n e = elim (optional-is (codes "maxRows") 1048576 max_rows n operand e) [
+most-limit operand n e = elim (optional-is (codes "maxRows") ROW_LIMIT max_rows n operand e) [
   | inl default ↦ subst IsLimit default (record { some = omega arith; few = omega arith })
   | inr read ↦ let p = steps (of_kind (as_number read.value)) (λ m. row_limit (as_u64 m)) n read.is in row_limit-is (as_u64 p.found) n p.then
 ]
+
+-- ---- files
+
+-- the file of a table that is read in this way
+pub record IsFile (adapter : AdapterKind) (file : List ℕ) : Type 0 where
+  pub short : length file ≤ TEXT_LIMIT
+  pub there : IsFileOf adapter file
+
+file-is : (operand : Data) (n : List ℕ) → file_at operand ≡ Ok n → IsFile Csv n
+file-is operand n e =
+    let ruled = field-is (codes "file") file n operand e in
+    let read = steps (text ruled.value) (λ s. if is_compressed (chars s) then bad Compressed else Ok (chars s)) n ruled.is in
+    let free = past_if (is_compressed (chars read.found)) (bad Compressed) (Ok (chars read.found)) (Ok n) (λ f. Prim.cc) read.then in
+    let same : chars read.found ≡ n = Prim.cc (free.1) in
+    record {
+      short = subst (λ (u : List ℕ). length u ≤ TEXT_LIMIT) same (text-short ruled.value read.found read.first);
+      there = subst (λ (u : List ℕ). is_compressed u ≡ false) same free.0;
+    }
 
 -- ---- contents
 
@@ -78,6 +101,7 @@ IsOneOf adapter columns key most (Some rs) = HasRows adapter columns key most rs
 
 pub record IsContents (adapter : AdapterKind) (c : Contents) : Type 0 where
   pub limit : IsLimit c.max_rows
+  pub file : IsFile adapter c.file
   pub rows : IsOneOf adapter c.columns c.primary_key c.max_rows c.rows
 
 csv-contents : (d : Data) (c : Contents) → csv_operand d ≡ Ok c → IsContents Csv c
@@ -86,7 +110,7 @@ csv-contents d c e =
     let most = steps (most_rows d) (λ most. Ok (record { file = file.found; max_rows = most; columns = []; primary_key = []; rows = None })) c file.then in
     let made : Contents = record { file = file.found; max_rows = most.found; columns = []; primary_key = []; rows = None } in
     let same : made ≡ c = Prim.cc (most.then) in
-    subst (IsContents Csv) same (record { limit = most-limit d most.found most.first; rows = refl })
+    subst (IsContents Csv) same (record { limit = most-limit d most.found most.first; file = file-is d file.found file.first; rows = refl })
 
 abbrev mem_contents : ℕ → List ColumnDef → List (List Value) → List ℕ → Contents
 mem_contents most cs rs ks = record { file = []; max_rows = most; columns = keyed ks cs; primary_key = ks; rows = Some rs }
@@ -97,6 +121,7 @@ mem_made most cs rs ks = Ok (mem_contents most cs rs ks)
 mem-is : (most : ℕ) (cs : List ColumnDef) (rs : List (List Value)) (ks : List ℕ) (c : Contents) → IsLimit most → IsHeader cs → IsKeyOf cs ks → AreRowsOf cs most rs → keys_apart ks rs ≡ Ok tt → mem_contents most cs rs ks ≡ c → IsContents Mem c
 mem-is most cs rs ks c limit header key typed apart same = subst (IsContents Mem) same (record {
   limit = limit;
+  file = record { short = omega arith; there = refl };
   rows = record { in_model = refl; valid = header-keyed cs ks header key; filled = rows-fill cs ks most rs typed apart };
 })
 
@@ -131,8 +156,9 @@ contents-is Mem d c e = mem-contents d c e
 -- ---- one table
 
 pub record IsDraft (t : Draft) : Type 0 where
-  pub name_short : length t.table.name ≤ 128
+  pub name_short : length t.table.name ≤ NAME_LIMIT
   pub limit : IsLimit t.table.max_rows
+  pub file : IsFile t.table.adapter t.table.file
   pub rows : IsOneOf t.table.adapter t.table.columns t.table.primary_key t.table.max_rows t.rows
 
 -- a table of this schema, which no other one before has the name of
@@ -141,17 +167,17 @@ pub record IsNext (schema : List ℕ) (before : List Draft) (t : Draft) : Type 0
   pub of_schema : t.table.schema ≡ schema
   pub fresh : list_any (is_draft_named t.table.name) before ≡ false
 
-named : (before : List Draft) (d : Data) (s : List ℕ) → table_name before d ≡ Ok s → (length s ≤ 128) × (list_any (is_draft_named s) before ≡ false)
+named : (before : List Draft) (d : Data) (s : List ℕ) → table_name before d ≡ Ok s → (length s ≤ NAME_LIMIT) × (list_any (is_draft_named s) before ≡ false)
 named before d s e =
     let read = steps (name d) (λ u. if list_any (is_draft_named (chars u)) before then bad Repeated else Ok (chars u)) s e in
     let free = past_if (list_any (is_draft_named (chars read.found)) before) (bad Repeated) (Ok (chars read.found)) (Ok s) (λ f. Prim.cc) read.then in
     let same : chars read.found ≡ s = Prim.cc (free.1) in
-    (subst (λ (u : List ℕ). length u ≤ 128) same (name-short d read.found read.first), subst (λ (u : List ℕ). list_any (is_draft_named u) before ≡ false) same free.0)
+    (subst (λ (u : List ℕ). length u ≤ NAME_LIMIT) same (name-short d read.found read.first), subst (λ (u : List ℕ). list_any (is_draft_named u) before ≡ false) same free.0)
 
-next-is : (schema_at : ℕ) (schema : List ℕ) (before : List Draft) (n : List ℕ) (a : AdapterKind) (c : Contents) (t : Draft) → length n ≤ 128 → list_any (is_draft_named n) before ≡ false → IsContents a c
+next-is : (schema_at : ℕ) (schema : List ℕ) (before : List Draft) (n : List ℕ) (a : AdapterKind) (c : Contents) (t : Draft) → length n ≤ NAME_LIMIT → list_any (is_draft_named n) before ≡ false → IsContents a c
     → draft_of schema_at schema (length before) n a c ≡ t → IsNext schema before t
 next-is schema_at schema before n a c t short free is same =
-    subst (IsNext schema before) same (record { draft = record { name_short = short; limit = is.limit; rows = is.rows }; of_schema = refl; fresh = free })
+    subst (IsNext schema before) same (record { draft = record { name_short = short; limit = is.limit; file = is.file; rows = is.rows }; of_schema = refl; fresh = free })
 
 table-next : (schema_at : ℕ) (schema : List ℕ) (before : List Draft) (d : Data) (t : Draft) → table schema_at schema before d ≡ Ok t → IsNext schema before t
 table-next schema_at schema before d t e =
@@ -199,19 +225,19 @@ tables-more schema_at schema before d t are e =
 -- the tables of a schema after so many of other schemas
 pub record AreTables (schema : List ℕ) (before : ℕ) (ts : List Draft) : Type 0 where
   pub tables : AreOf schema ts
-  pub few : before + length ts ≤ 64
+  pub few : before + length ts ≤ TABLE_LIMIT
 
 tables-are : (schema_at : ℕ) (schema : List ℕ) (before : ℕ) (d : Data) (ts : List Draft) → tables schema_at schema before d ≡ Ok ts → AreTables schema before ts
 tables-are schema_at schema before d ts e =
     let s = steps (a_list d) (table_list schema_at schema before) ts e in
-    let few = past_if (nat_lt 64 (before + count s.found)) (bad TooMany) (each (table schema_at schema) s.found) (Ok ts) (λ f. Prim.cc) s.then in
+    let few = past_if (nat_lt TABLE_LIMIT (before + count s.found)) (bad TooMany) (each (table schema_at schema) s.found) (Ok ts) (λ f. Prim.cc) s.then in
     let counted : length ts ≡ 0 + count s.found = each-count (table schema_at schema) [] s.found ts few.1 in
     record {
       tables = each-keeps (AreOf schema) (table schema_at schema) (tables-more schema_at schema) [] s.found ts (no_tables schema) few.1;
-      few = omega (arith, counted, ltb-false 64 (before + count s.found) few.0);
+      few = omega (arith, counted, ltb-false TABLE_LIMIT (before + count s.found) few.0);
     }
 
-tables_at-are : (number : ℕ) (s : List ℕ) (before : ℕ) (d : Data) (ts : List Draft) → before ≤ 64 → tables_at number s before d ≡ Ok ts → AreTables s before ts
+tables_at-are : (number : ℕ) (s : List ℕ) (before : ℕ) (d : Data) (ts : List Draft) → before ≤ TABLE_LIMIT → tables_at number s before d ≡ Ok ts → AreTables s before ts
 tables_at-are number s before d ts few e = elim (optional-is (codes "tables") [] (tables number s before) ts d e) [
   | inl none ↦ subst (AreTables s before) none (record { tables = no_tables s; few = omega (arith, few) })
   | inr read ↦ tables-are number s before read.value ts read.is
@@ -224,12 +250,12 @@ IsKnown names t = list_any (is_same_name t.table.schema) names ≡ true
 
 -- a table of a valid schema, but for the columns of files
 abbrev pub IsWhole : Draft → Type 0
-IsWhole t = IsDraft t × (length t.table.schema ≤ 128)
+IsWhole t = IsDraft t × (length t.table.schema ≤ NAME_LIMIT)
 
 pub record AreSeen (s : Seen) : Type 0 where
   pub drafts : All IsWhole s.tables
   pub known : All (IsKnown s.names) s.tables
-  pub few : length s.tables ≤ 64
+  pub few : length s.tables ≤ TABLE_LIMIT
   pub apart : AllPairs HaveTwo s.tables
 
 none_seen : AreSeen nothing_seen
@@ -258,9 +284,9 @@ two_schemas names s a b known is free =
     λ same name. let seen : list_any (is_same_name s) names ≡ true = sym (ap (λ (u : List ℕ). list_any (is_same_name u) names) (same ∙ is.1)) ∙ known in Prim.cc
 
 -- a schema more, of a new name
-seen-more : (before : Seen) (s : List ℕ) (ts : List Draft) → AreSeen before → length s ≤ 128 → list_any (is_same_name s) before.names ≡ false → AreTables s (length before.tables) ts → AreSeen (seen (before.names ++ s ∷ []) (before.tables ++ ts))
+seen-more : (before : Seen) (s : List ℕ) (ts : List Draft) → AreSeen before → length s ≤ NAME_LIMIT → list_any (is_same_name s) before.names ≡ false → AreTables s (length before.tables) ts → AreSeen (seen (before.names ++ s ∷ []) (before.tables ++ ts))
 seen-more before s ts are short free new = record {
-  drafts = All-append IsWhole before.tables ts are.drafts (All-weaker (IsOf s) IsWhole (λ t is. (is.0, subst (λ (u : List ℕ). length u ≤ 128) (sym is.1) short)) ts new.tables.each);
+  drafts = All-append IsWhole before.tables ts are.drafts (All-weaker (IsOf s) IsWhole (λ t is. (is.0, subst (λ (u : List ℕ). length u ≤ NAME_LIMIT) (sym is.1) short)) ts new.tables.each);
   known = All-append (IsKnown (before.names ++ s ∷ [])) before.tables ts
       (All-weaker (IsKnown before.names) (IsKnown (before.names ++ s ∷ [])) (known-more before.names s) before.tables are.known)
       (All-weaker (IsOf s) (IsKnown (before.names ++ s ∷ [])) (known-here before.names s) ts new.tables.each);
@@ -269,12 +295,12 @@ seen-more before s ts are short free new = record {
       (λ i d lt j e within. two_schemas before.names s (get_or before.tables i d) (get_or ts j e) (are.known i d lt) (new.tables.each j e within) free);
 }
 
-schema-named : (o : Data) (s : List ℕ) → schema_name_at o ≡ Ok s → length s ≤ 128
+schema-named : (o : Data) (s : List ℕ) → schema_name_at o ≡ Ok s → length s ≤ NAME_LIMIT
 schema-named o s e =
     let ruled = field-is (codes "name") schema_name s o e in
     let read = steps (name ruled.value) (λ u. Ok (chars u)) s ruled.is in
     let same : chars read.found ≡ s = Prim.cc (read.then) in
-    subst (λ (u : List ℕ). length u ≤ 128) same (name-short ruled.value read.found read.first)
+    subst (λ (u : List ℕ). length u ≤ NAME_LIMIT) same (name-short ruled.value read.found read.first)
 
 name-new : (before names : List (List ℕ)) (s : List ℕ) → name_added before s ≡ Ok names → (list_any (is_same_name s) before ≡ false) × (before ++ s ∷ [] ≡ names)
 name-new before names s e =
@@ -304,7 +330,7 @@ schema-seen number before d next are e =
 -- the tables of a document
 pub record AreDrafts (ts : List Draft) : Type 0 where
   pub drafts : All IsWhole ts
-  pub few : length ts ≤ 64
+  pub few : length ts ≤ TABLE_LIMIT
   pub apart : AllPairs HaveTwo ts
 
 schemas-drafts : (ds : Items) (ts : List Draft) → all_schemas ds ≡ Ok ts → AreDrafts ts
@@ -314,11 +340,35 @@ schemas-drafts ds ts e =
     let same : (s.found).tables ≡ ts = Prim.cc (s.then) in
     subst AreDrafts same (record { drafts = are.drafts; few = are.few; apart = are.apart })
 
-drafts-are : (whole drafts : Drafts) → whole ≡ drafts → AreDrafts whole.tables → AreDrafts drafts.tables
-drafts-are whole drafts same are = subst AreDrafts (ap (λ (w : Drafts). w.tables) same) are
+abbrev pub IsShortName : Option (List ℕ) → Type 0
+IsShortName o = IfSome o (λ s. length s ≤ NAME_LIMIT)
 
-pub walk-drafts : (d : Data) (drafts : Drafts) → first_walk d ≡ Ok drafts → AreDrafts drafts.tables
-walk-drafts d drafts e =
+default-short : (ds : Items) (root : Data) (o : Option (List ℕ)) → default_at ds root ≡ Ok o → IsShortName o
+default-short ds root o e = elim (optional-is (codes "defaultSchema") None (default_schema ds) o root e) [
+  | inl none ↦ subst IsShortName none tt
+  | inr read ↦ named_short ds read.value o read.is
+]
+  where
+    named_short : (ds : Items) (d : Data) (o : Option (List ℕ)) → default_schema ds d ≡ Ok o → IsShortName o
+    named_short ds d o e =
+        let read = steps (text d) (schema_named ds) o e in
+        let s = read.found in
+        let is = into_if (nat_le (length (chars s)) NAME_LIMIT && has_schema s ds) (Ok (Some (chars s))) (bad NoSuchName) (Ok o) (λ f. Prim.cc) read.then in
+        let both = and_parts (nat_le (length (chars s)) NAME_LIMIT) (has_schema s ds) is.0 in
+        let short : length (chars s) ≤ NAME_LIMIT = leb-true (length (chars s)) NAME_LIMIT both.0 in
+        let same : Some (chars s) ≡ o = Prim.cc (is.1) in
+        subst IsShortName same short
+
+-- what the first walk gives
+pub record IsWalk (drafts : Drafts) : Type 0 where
+  pub tables : AreDrafts drafts.tables
+  pub default : IsShortName drafts.default_schema
+
+walk-made : (whole drafts : Drafts) → whole ≡ drafts → AreDrafts whole.tables → IsShortName whole.default_schema → IsWalk drafts
+walk-made whole drafts same are short = subst IsWalk same (record { tables = are; default = short })
+
+pub walk-is : (d : Data) (drafts : Drafts) → first_walk d ≡ Ok drafts → IsWalk drafts
+walk-is d drafts e =
     let root = steps (a_document d) (λ r. optional (codes "version") tt (word (codes "1.0")) r >>= λ u. schemas_at r >>= λ ds. default_at ds r >>= λ default. all_schemas ds >>= λ ts. made default ts) drafts e in
     let r = root.found in
     let version = steps (optional (codes "version") tt (word (codes "1.0")) r) (λ u. schemas_at r >>= λ ds. default_at ds r >>= λ default. all_schemas ds >>= λ ts. made default ts) drafts root.then in
@@ -326,7 +376,10 @@ walk-drafts d drafts e =
     let ds = listed.found in
     let default = steps (default_at ds r) (λ o. all_schemas ds >>= λ ts. made o ts) drafts listed.then in
     let all = steps (all_schemas ds) (λ ts. made default.found ts) drafts default.then in
-    drafts-are (record { default_schema = default.found; tables = all.found }) drafts (Prim.cc (all.then)) (schemas-drafts ds all.found all.first)
+    walk-made (record { default_schema = default.found; tables = all.found }) drafts (Prim.cc (all.then)) (schemas-drafts ds all.found all.first) (default-short ds r default.found default.first)
   where
     made : Option (List ℕ) → List Draft → Result Drafts ModelFault
     made default ts = Ok (record { default_schema = default; tables = ts })
+
+pub walk-drafts : (d : Data) (drafts : Drafts) → first_walk d ≡ Ok drafts → AreDrafts drafts.tables
+walk-drafts d drafts e = (walk-is d drafts e).tables

@@ -13,8 +13,10 @@ use Rattle.serde_json.specs.Data.{Data, null, boolean, number, string, array, ob
 use Rattle.serde_json.specs.Find.{as_i64}
 use Rattle.cal_value.specs.Equal.{row_eq}
 use Rattle.cal_value.specs.EqualLaws.{row_eq-Decides}
-use Rattle.cal_value.specs.Interval.{Holds}
-use Rattle.cal_value.specs.Order.{column_of as value_in}
+use Rattle.cal_value.specs.Interval.{Holds, holds}
+use Rattle.cal_value.specs.declared.limits.TheConstants.{TEXT_LIMIT}
+use Rattle.cal_value.specs.Logic.{is_null}
+use Rattle.cal_value.specs.Order.{column_of as value_in, columns_of}
 use Rattle.cal_value.specs.Types.{HasTypes, IsOfType}
 use Rattle.cal_value.specs.declared.interval.Interval.{Interval}
 use Rattle.cal_value.specs.declared.interval.Interval.TheVariants.{Never, Range}
@@ -31,13 +33,13 @@ use Rattle.model_json.specs.declared.fault.ModelCause.TheVariants.{BadValue, Too
 use Rattle.model_json.specs.declared.fault.ModelFault.{ModelFault}
 use Rattle.model_json.specs.Reading.{bad, each}
 use Rattle.model_json.specs.Kinds.{a_list, short, count}
-use Rattle.model_json.specs.Rows.{is_within, whole, short_cell, cell, cell_in, next_cell, cells, row_of, row, row_list, rows, is_place, keyed, keyed_column, is_null, key_values, with_key, row_key_added, keys_from, keys_apart}
+use Rattle.model_json.specs.Rows.{whole, short_cell, cell, cell_in, next_cell, cells, row_of, row, row_list, rows, is_place, keyed, keyed_column, with_key, row_key_added, keys_from, keys_apart}
 use Rattle.model_json.proofs.AnswerLemmas.{steps, under-is, each-keeps, each-count}
 use Rattle.model_json.proofs.KeyLemmas.{keyed-at, length-keyed}
 
 -- ---- one cell
 
-within-holds : (i : Interval) (n : ℤ) → is_within i n ≡ true → Holds i n
+within-holds : (i : Interval) (n : ℤ) → holds i n ≡ true → Holds i n
 within-holds Never n e = Prim.cc
 within-holds (Range lo hi) n e =
     let p = and_parts (int_le lo n) (int_le n hi) e in
@@ -48,14 +50,14 @@ within-holds (Range lo hi) n e =
 whole-typed : (range : Interval) (o : Option ℤ) (v : Value) (t : SqlType) → t.kind ≡ Integer → t.interval ≡ range → whole range o ≡ Ok v → IsOfType v t
 whole-typed range None v t k i e = absurd (Prim.cc)
 whole-typed range (Some z) v t k i e =
-    let p = into_if (is_within range z) (Ok (Int z)) (bad BadValue) (Ok v) (λ f. Prim.cc) e in
+    let p = into_if (holds range z) (Ok (Int z)) (bad BadValue) (Ok v) (λ f. Prim.cc) e in
     let is : Int z ≡ v = Prim.cc (p.1) in
     let held : Holds t.interval z = subst (λ (r : Interval). Holds r z) (sym i) (within-holds range z p.0) in
     subst (λ (w : Value). IsOfType w t) is (k, held)
 
 text-typed : (s : List ℕ) (v : Value) (t : SqlType) → t.kind ≡ TextKind → short_cell s ≡ Ok v → IsOfType v t
 text-typed s v t k e =
-    let p = steps (short 4000 s) (λ (w : List ℕ). Ok (Text (chars w))) v e in
+    let p = steps (short TEXT_LIMIT s) (λ (w : List ℕ). Ok (Text (chars w))) v e in
     let is : Text (chars p.found) ≡ v = Prim.cc (p.then) in
     subst (λ (w : Value). IsOfType w t) is k
 
@@ -170,6 +172,9 @@ rows-typed cs most nulls d rs e =
     }
 
 -- ---- keys
+
+abbrev key_values : List ℕ → List Value → List Value
+key_values ks r = columns_of r ks
 
 -- no key of the rows has NULL, and no two are one
 pub record HaveKeys (ks : List ℕ) (rs : List (List Value)) : Type 0 where

@@ -10,6 +10,7 @@ use Rattle.std.proofs.lemmas.List.Kept.{AllPairs-cons}
 use Rattle.std.proofs.lemmas.List.Quantifiers.{all_pairs_push, position-Some}
 use Rattle.serde_json.specs.Data.{Data, Items}
 use Rattle.cal_value.specs.Types.{text_type}
+use Rattle.cal_value.specs.declared.limits.TheConstants.{COLUMN_LIMIT, NAME_LIMIT}
 use Rattle.cal_schema.specs.declared.column.ColumnDef.{ColumnDef}
 use Rattle.cal_schema.specs.declared.column.ColumnFault.{ColumnFault}
 use Rattle.cal_schema.specs.declared.column.ColumnFault.TheVariants.{NameTooLong, BadColumn, NoMemory as NoMemoryFor}
@@ -42,12 +43,12 @@ columns-more before d c are e =
 
 list-header : (ds : Items) (cs : List ColumnDef) → column_list ds ≡ Ok cs → IsHeader cs
 list-header ds cs e =
-    let some = past_if (count ds == 0) (bad BadValue) (cond (nat_lt 32 (count ds)) (bad TooMany) (each column ds)) (Ok cs) (λ f. Prim.cc) e in
-    let few = past_if (nat_lt 32 (count ds)) (bad TooMany) (each column ds) (Ok cs) (λ f. Prim.cc) some.1 in
+    let some = past_if (count ds == 0) (bad BadValue) (cond (nat_lt COLUMN_LIMIT (count ds)) (bad TooMany) (each column ds)) (Ok cs) (λ f. Prim.cc) e in
+    let few = past_if (nat_lt COLUMN_LIMIT (count ds)) (bad TooMany) (each column ds) (Ok cs) (λ f. Prim.cc) some.1 in
     let are : AreColumns cs = each-keeps AreColumns column columns-more [] ds cs columns_none few.1 in
     let counted : length cs ≡ 0 + count ds = each-count column [] ds cs few.1 in
     let ne : count ds ≡ 0 → ⊥ = eqb-false (count ds) 0 some.0 in
-    header_of_columns cs are (omega (arith, ne)) (omega (arith, ltb-false 32 (count ds) few.0))
+    header_of_columns cs are (omega (arith, ne)) (omega (arith, ltb-false COLUMN_LIMIT (count ds) few.0))
 
 -- the columns of a table whose rows stand in the model
 pub columns-header : (d : Data) (cs : List ColumnDef) → columns d ≡ Ok cs → IsHeader cs
@@ -150,9 +151,9 @@ keyed-nulls ks cs k c e =
 -- the columns and the key of a valid table
 pub record HasColumns (columns : List ColumnDef) (key : List ℕ) : Type 0 where
   pub some_columns : 0 < length columns
-  pub few_columns : length columns ≤ 32
+  pub few_columns : length columns ≤ COLUMN_LIMIT
   pub columns_named : All (λ c. 0 < length c.name) columns
-  pub columns_short : All (λ c. length c.name ≤ 128) columns
+  pub columns_short : All (λ c. length c.name ≤ NAME_LIMIT) columns
   pub columns_apart : AllPairs (λ a b. a.name ≢ b.name) columns
   pub typed : All (λ c. IsColumnType c.kind) columns
   pub nulls : (k : ℕ) (c : ColumnDef) → slice_get columns k ≡ Some c → (c.kind.nullable ≡ true) ↔ (¬ Contains key k)
@@ -166,7 +167,7 @@ header-keyed cs ks header is =
       some_columns = omega (arith, long, header.some_columns);
       few_columns = omega (arith, long, header.few_columns);
       columns_named = keyed-all (λ c. 0 < length c.name) (λ c. 0 < length c.name) ks (λ n c h. h) 0 cs header.columns_named;
-      columns_short = keyed-all (λ c. length c.name ≤ 128) (λ c. length c.name ≤ 128) ks (λ n c h. h) 0 cs header.columns_short;
+      columns_short = keyed-all (λ c. length c.name ≤ NAME_LIMIT) (λ c. length c.name ≤ NAME_LIMIT) ks (λ n c h. h) 0 cs header.columns_short;
       columns_apart = keyed-apart ks 0 cs header.columns_apart;
       typed = keyed-all (λ c. IsColumnType c.kind) (λ c. IsColumnType c.kind) ks (λ n c h. h) 0 cs header.typed;
       nulls = keyed-nulls ks cs;

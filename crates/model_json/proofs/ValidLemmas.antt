@@ -6,6 +6,7 @@ use Rattle.std.proofs.lemmas.List.{append-nil, length_push}
 use Rattle.std.proofs.lemmas.List.Elements.{All-nil, All-cons, All-head, All-tail, All-push}
 use Rattle.std.proofs.lemmas.List.Kept.{AllPairs-cons}
 use Rattle.serde_json.specs.Data.{Data}
+use Rattle.cal_value.specs.declared.limits.TheConstants.{COLUMN_LIMIT, NAME_LIMIT}
 use Rattle.cal_value.specs.declared.value.Value.{Value}
 use Rattle.cal_schema.specs.declared.column.ColumnDef.{ColumnDef}
 use Rattle.cal_schema.specs.declared.table.AdapterKind.{AdapterKind}
@@ -17,10 +18,13 @@ use Rattle.model_json.specs.declared.draft.Drafts.{Drafts}
 use Rattle.model_json.specs.declared.fault.ModelFault.{ModelFault}
 use Rattle.model_json.specs.declared.model.Model.{Model}
 use Rattle.model_json.specs.Reading.{◌>>=◌, under, Gives}
+use Rattle.cal_value.specs.declared.memory.NoMemory.{NoMemory}
+use Rattle.model_json.specs.declared.source.TableSource.{TableSource}
 use Rattle.model_json.specs.Schemas.{first_walk}
+use Rattle.model_json.specs.Sources.{source_of, sources_in, sources_of}
 use Rattle.model_json.specs.ModelOf.{operand_at, file_key, with_columns, file_key_at, table_with, header_at, whole_table, tables_after, second_walk, third_walk, inline_rows, model, resolved, resolve, if_file, file_name, files, FilesAre, IsHeaderOf, AreHeadersOf, file_by, file_of, IsInlineOf, AreInlineFilled, AreShort}
 use Rattle.model_json.proofs.AnswerLemmas.{steps, under-is}
-use Rattle.model_json.proofs.DraftLemmas.{IsLimit, HasRows, IsOneOf, IsDraft, IsWhole, HaveTwo, walk-drafts}
+use Rattle.model_json.proofs.DraftLemmas.{IsFile, IsLimit, HasRows, IsOneOf, IsDraft, IsShortName, IsWhole, HaveTwo, walk-drafts, walk-is}
 use Rattle.model_json.proofs.FilledLemmas.{fills-table}
 use Rattle.model_json.proofs.KeyLemmas.{HasColumns, IsKeyOf, no_key, primary_key-is, header-keyed}
 
@@ -49,8 +53,8 @@ inline-file t (Some rs) is draft d cs w e =
     let rows : HasRows t.table.adapter t.table.columns t.table.primary_key t.table.max_rows rs = subst (IsOneOf t.table.adapter t.table.columns t.table.primary_key t.table.max_rows) is draft.rows in
     subst (Completes t) same (record { schema = refl; name = refl; adapter = refl; file = refl; max_rows = refl; inline = subst (IsInlineOf t.table) (sym is) (rows.in_model, fills-table t.table rs rows.filled) })
 
-valid-table : (w : TableDef) → length w.schema ≤ 128 → length w.name ≤ 128 → IsLimit w.max_rows → HasColumns w.columns w.primary_key → IsValidTable w
-valid-table w schema name limit has = record {
+valid-table : (w : TableDef) → length w.schema ≤ NAME_LIMIT → length w.name ≤ NAME_LIMIT → IsFile w.adapter w.file → IsLimit w.max_rows → HasColumns w.columns w.primary_key → IsValidTable w
+valid-table w schema name file limit has = record {
   schema_short = schema;
   name_short = name;
   some_columns = has.some_columns;
@@ -60,6 +64,8 @@ valid-table w schema name limit has = record {
   columns_apart = has.columns_apart;
   typed = has.typed;
   nulls = has.nulls;
+  file_short = file.short;
+  file_there = file.there;
   some_rows = limit.some;
   few_rows = limit.few;
   key_there = has.key_there;
@@ -89,14 +95,14 @@ table-valid t None is whole d cs has w e =
     let key = steps (file_key_at d t cs) (λ ks. made ks) w e in
     let same : with_columns t.table cs key.found ≡ w = Prim.cc (key.then) in
     subst IsValidTable same
-    (valid-table (with_columns t.table cs key.found) whole.1 whole.0.name_short whole.0.limit (header-keyed cs key.found (has.header refl) (key_at-is d t cs key.found key.first)))
+    (valid-table (with_columns t.table cs key.found) whole.1 whole.0.name_short whole.0.file whole.0.limit (header-keyed cs key.found (has.header refl) (key_at-is d t cs key.found key.first)))
   where
     made : List ℕ → Result TableDef ModelFault
     made ks = Ok (with_columns t.table cs ks)
 table-valid t (Some rs) is whole d cs has w e =
     let same : t.table ≡ w = Prim.cc in
     let rows : HasRows t.table.adapter t.table.columns t.table.primary_key t.table.max_rows rs = subst (IsOneOf t.table.adapter t.table.columns t.table.primary_key t.table.max_rows) is whole.0.rows in
-    subst IsValidTable same (valid-table t.table whole.1 whole.0.name_short whole.0.limit rows.valid)
+    subst IsValidTable same (valid-table t.table whole.1 whole.0.name_short whole.0.file whole.0.limit rows.valid)
 
 -- ---- all tables
 
@@ -187,6 +193,7 @@ zip-files (t ∷ ts) (w ∷ ws) each =
 pub record Resolved (d : Data) (headers : List (Option (List ColumnDef))) (m : Model) : Type 0 where
   pub drafts : Drafts
   pub first : first_walk d ≡ Ok drafts
+  pub default : drafts.default_schema ≡ m.schema.default_schema
   pub tables : tables_after d headers [] drafts.tables ≡ Ok m.schema.tables
   pub inline : m.inline ≡ map inline_rows drafts.tables
 
@@ -200,6 +207,7 @@ resolved-is d headers m e =
     record {
       drafts = drafts;
       first = walk.first;
+      default = ap (λ (w : Model). w.schema.default_schema) same;
       tables = all.first ∙ ap (λ (w : Model). good w.schema.tables) same;
       inline = sym (ap (λ (w : Model). w.inline) same);
     }
@@ -232,10 +240,12 @@ files-are d headers m e names h =
 schema-valid : (d : Data) (headers : List (Option (List ColumnDef))) (m : Model) → resolve d headers ≡ Ok m → (names : List (Option (List ℕ))) → FilesAre names (first_walk d) → AreHeadersOf names headers → IsValidSchema m.schema
 schema-valid d headers m e names h given =
     let r = resolved-is d headers m e in
-    let drafts = walk-drafts d r.drafts r.first in
+    let walk = walk-is d r.drafts r.first in
+    let drafts = walk.tables in
     let each = completed d headers m r in
     let named : AreHeadersOf (map file_name r.drafts.tables) headers = subst (λ (ns : List (Option (List ℕ))). AreHeadersOf ns headers) (names-are names (first_walk d) r.drafts r.first h) given in
     record {
+      default_short = subst IsShortName r.default walk.default;
       few_tables = omega (arith, zip-length r.drafts.tables m.schema.tables each, drafts.few);
       tables = walk-valid d headers [] headers [] r.drafts.tables m.schema.tables refl refl drafts.drafts named (All-nil IsValidTable) r.tables;
       apart = zip-apart r.drafts.tables m.schema.tables each drafts.apart;
@@ -267,18 +277,23 @@ headers-push [] (h ∷ hs) name header are is = absurd are
 headers-push (n ∷ ns) [] name header are is = absurd are
 headers-push (n ∷ ns) (h ∷ hs) name header are is = (are.0, headers-push ns hs name header are.1 is)
 
-one-short : (name : Option (List ℕ)) (header : Option (List ColumnDef)) → IsHeaderOf name header → IfSome header (λ cs. length cs ≤ 32)
+one-short : (name : Option (List ℕ)) (header : Option (List ColumnDef)) → IsHeaderOf name header → IfSome header (λ cs. length cs ≤ COLUMN_LIMIT)
 one-short name None is = tt
 one-short None (Some cs) is = absurd is
 one-short (Some name) (Some cs) is = is.few_columns
 
 pub headers-short : (names : List (Option (List ℕ))) (headers : List (Option (List ColumnDef))) → AreHeadersOf names headers → AreShort headers
-headers-short [] [] are = All-nil (λ header. IfSome header (λ cs. length cs ≤ 32))
+headers-short [] [] are = All-nil (λ header. IfSome header (λ cs. length cs ≤ COLUMN_LIMIT))
 headers-short [] (h ∷ hs) are = absurd are
 headers-short (n ∷ ns) [] are = absurd are
-headers-short (n ∷ ns) (h ∷ hs) are = All-cons (λ header. IfSome header (λ cs. length cs ≤ 32)) h hs (one-short n h are.0) (headers-short ns hs are.1)
+headers-short (n ∷ ns) (h ∷ hs) are = All-cons (λ header. IfSome header (λ cs. length cs ≤ COLUMN_LIMIT)) h hs (one-short n h are.0) (headers-short ns hs are.1)
 
 -- ---- what the call answers
 
 pub after-walk : (d : Data) (headers : List (Option (List ColumnDef))) (drafts : Drafts) (answer : Result Model ModelFault) → first_walk d ≡ Ok drafts → Gives (λ (m : Model). m) answer (resolved d headers drafts) → Gives (λ (m : Model). m) answer (resolve d headers)
 after-walk d headers drafts answer e h = subst (λ (w : Result Drafts ModelFault). Gives (λ (m : Model). m) answer (w >>= resolved d headers)) (sym e) h
+
+-- ---- the tables with their files
+
+pub sources-walked : (d : Data) (drafts : Drafts) (answer : Result (List TableSource) NoMemory) → first_walk d ≡ Ok drafts → IfOk answer (λ all. all ≡ map source_of drafts.tables) → IfOk answer (λ all. all ≡ sources_of d)
+sources-walked d drafts answer e h = subst (λ (w : Result Drafts ModelFault). IfOk answer (λ all. all ≡ sources_in w)) (sym e) h

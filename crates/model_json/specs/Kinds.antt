@@ -3,6 +3,7 @@ use Rattle.std.specs.Prelude.{ℕ, suc, List, length, nat_lt, if◌then◌else�
 use Rattle.std.specs.Str.{bytes_eq, chars}
 use Rattle.serde_json.specs.Data.{Data, Items, no_items, item}
 use Rattle.serde_json.specs.Find.{as_str, as_array, as_object}
+use Rattle.cal_value.specs.declared.limits.TheConstants.{NAME_LIMIT, TEXT_LIMIT}
 use Rattle.model_json.specs.declared.fault.ModelCause.TheVariants.{WrongKind, BadValue, TextTooLong}
 use Rattle.model_json.specs.declared.fault.ModelFault.{ModelFault}
 use Rattle.model_json.specs.Reading.{◌>>=◌, bad}
@@ -36,11 +37,11 @@ abbrev pub short_text : ℕ → Data → Result (List ℕ) ModelFault
 short_text limit d = of_kind (as_str d) >>= short limit
 
 abbrev pub text : Data → Result (List ℕ) ModelFault
-text d = short_text 4000 d
+text d = short_text TEXT_LIMIT d
 
 -- the text of a name that is defined here
 abbrev pub name : Data → Result (List ℕ) ModelFault
-name d = short_text 128 d
+name d = short_text NAME_LIMIT d
 
 -- one text alone
 abbrev pub word : List ℕ → Data → Result ⊤ ModelFault

@@ -6,6 +6,8 @@ use Rattle.std.specs.Str.{is_utf8}
 use Rattle.serde_json.specs.Data.{Data, Items, no_items, item}
 use Rattle.serde_json.specs.Find.{get, at}
 use Rattle.serde_json.specs.Read.{read}
+use Rattle.serde_json.specs.View.{view}
+use Rattle.cal_value.specs.declared.limits.TheConstants.{COLUMN_LIMIT, TABLE_LIMIT}
 use Rattle.cal_value.specs.declared.value.Value.{Value}
 use Rattle.cal_schema.specs.declared.column.ColumnDef.{ColumnDef}
 use Rattle.cal_schema.specs.declared.table.AdapterKind.{AdapterKind}
@@ -16,6 +18,7 @@ use Rattle.cal_schema.specs.Valid.{IsHeader}
 use Rattle.model_json.specs.declared.draft.Draft.{Draft}
 use Rattle.model_json.specs.declared.draft.Drafts.{Drafts}
 use Rattle.model_json.specs.declared.model.Model.{Model}
+use Rattle.model_json.specs.declared.model.ModelDoc.{ModelDoc}
 use Rattle.model_json.specs.declared.fault.ModelCause.TheVariants.{NotYet}
 use Rattle.model_json.specs.declared.fault.ModelFault.{ModelFault}
 use Rattle.model_json.specs.declared.fault.ModelFault.TheVariants.{NotJson}
@@ -139,9 +142,10 @@ FilesAre names (Err e) = ⊥
 abbrev pub checked : Data → Result Data ModelFault
 checked d = first_walk d >>= λ drafts. Ok d
 
--- the first walk finds no fault
-abbrev pub IsChecked : Data → Type 0
-IsChecked d = checked d ≡ Ok d
+-- the drafts are what the first walk over the document gives
+pub record IsWalked (doc : ModelDoc) : Type 0 where
+  pub drafts : first_walk (view doc.json) ≡ Ok doc.drafts
+  pub few : length doc.drafts.tables ≤ TABLE_LIMIT
 
 -- the columns of a header, exactly where there is a file's name
 abbrev pub IsHeaderOf : Option (List ℕ) → Option (List ColumnDef) → Type 0
@@ -173,7 +177,7 @@ AreInlineFilled tables inline = AllZip IsInlineOf tables inline
 
 -- no header has more than 32 columns
 abbrev pub AreShort : List (Option (List ColumnDef)) → Type 0
-AreShort headers = All (λ header. IfSome header (λ cs. length cs ≤ 32)) headers
+AreShort headers = All (λ header. IfSome header (λ cs. length cs ≤ COLUMN_LIMIT)) headers
 
 abbrev pub read_model : List ℕ → Result Data ModelFault
 read_model bytes = document bytes >>= checked

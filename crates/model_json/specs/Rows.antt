@@ -1,18 +1,20 @@
 -- The columns, rows and keys of a table.
-use Rattle.std.specs.Prelude.{ℕ, ℤ, ◌+◌, ◌==◌, ◌&&◌, Bool, true, false, not, int_le, List, [], ◌∷◌, ◌++◌, length, map, nat_lt, if◌then◌else◌, slice_get, position, codes, Option, Some, None, Result, Ok, Err, ⊤}
+use Rattle.std.specs.Prelude.{ℕ, ℤ, ◌+◌, ◌==◌, Bool, not, List, [], ◌∷◌, ◌++◌, length, map, nat_lt, if◌then◌else◌, slice_get, position, codes, Option, Some, None, Result, Ok, Err, ⊤}
 use Rattle.std.specs.List.{list_any}
 use Rattle.std.specs.Str.{chars}
 use Rattle.std.specs.Fmt.{decimal}
 use Rattle.serde_json.specs.Data.{Data, null, boolean, number, string, Items}
 use Rattle.serde_json.specs.Find.{as_i64}
 use Rattle.cal_value.specs.declared.interval.Interval.{Interval}
-use Rattle.cal_value.specs.declared.interval.Interval.TheVariants.{Never, Range}
+use Rattle.cal_value.specs.declared.limits.TheConstants.{COLUMN_LIMIT, TEXT_LIMIT}
 use Rattle.cal_value.specs.declared.kind.Kind.{Kind}
 use Rattle.cal_value.specs.declared.kind.Kind.TheVariants.{Boolean, Integer, Text as TextKind}
 use Rattle.cal_value.specs.declared.value.Value.{Value}
 use Rattle.cal_value.specs.declared.value.Value.TheVariants.{Null, Bool as BoolValue, Int, Text}
 use Rattle.cal_value.specs.Equal.{row_eq}
-use Rattle.cal_value.specs.Order.{column_of as value_in}
+use Rattle.cal_value.specs.Interval.{holds}
+use Rattle.cal_value.specs.Logic.{is_null}
+use Rattle.cal_value.specs.Order.{columns_of}
 use Rattle.cal_schema.specs.declared.column.ColumnDef.{ColumnDef}
 use Rattle.cal_schema.specs.declared.column.ColumnFault.{ColumnFault}
 use Rattle.cal_schema.specs.declared.column.ColumnFault.TheVariants.{NameTooLong, BadColumn, NoMemory as NoMemoryFor}
@@ -44,23 +46,19 @@ column before d = (text d >>= λ s. parsed (column_of (chars s))) >>= differing 
 
 -- 1 to 32 columns
 abbrev pub column_list : Items → Result (List ColumnDef) ModelFault
-column_list ds = if count ds == 0 then bad BadValue else if nat_lt 32 (count ds) then bad TooMany else each column ds
+column_list ds = if count ds == 0 then bad BadValue else if nat_lt COLUMN_LIMIT (count ds) then bad TooMany else each column ds
 
 abbrev pub columns : Data → Result (List ColumnDef) ModelFault
 columns d = a_list d >>= column_list
 
 -- ---- rows
 
-abbrev pub is_within : Interval → ℤ → Bool
-is_within Never z = false
-is_within (Range lo hi) z = int_le lo z && int_le z hi
-
 abbrev pub whole : Interval → Option ℤ → Result Value ModelFault
 whole range None = bad BadValue
-whole range (Some z) = if is_within range z then Ok (Int z) else bad BadValue
+whole range (Some z) = if holds range z then Ok (Int z) else bad BadValue
 
 abbrev pub short_cell : List ℕ → Result Value ModelFault
-short_cell s = short 4000 s >>= λ t. Ok (Text (chars t))
+short_cell s = short TEXT_LIMIT s >>= λ t. Ok (Text (chars t))
 
 -- a value of a column of this kind, where whole numbers are in the range
 abbrev pub cell : Kind → Interval → Data → Result Value ModelFault
@@ -133,22 +131,12 @@ keyed ks cs = keyed_from ks 0 cs
 
 -- ---- the keys of rows
 
-abbrev pub is_null : Value → Bool
-is_null Null = true
-is_null (BoolValue b) = false
-is_null (Int n) = false
-is_null (Text s) = false
-
--- a row's values in the columns of the key, in the order of the key
-abbrev pub key_values : List ℕ → List Value → List Value
-key_values ks r = map (value_in r) ks
-
 -- the keys with that of one more row
 abbrev pub with_key : List (List Value) → List Value → Result (List (List Value)) ModelFault
 with_key before k = if list_any is_null k then bad NullValue else if list_any (row_eq k) before then bad KeyTaken else Ok (before ++ k ∷ [])
 
 abbrev pub row_key_added : List ℕ → ℕ → List (List Value) → List Value → Result (List (List Value)) ModelFault
-row_key_added ks n before r = under (decimal n) (with_key before (key_values ks r))
+row_key_added ks n before r = under (decimal n) (with_key before (columns_of r ks))
 
 -- the rows in order, each judged by the keys of those before it
 abbrev pub keys_from : List ℕ → ℕ → List (List Value) → List (List Value) → Result ⊤ ModelFault

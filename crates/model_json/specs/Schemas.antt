@@ -4,6 +4,7 @@ use Rattle.std.specs.List.{list_any}
 use Rattle.std.specs.Str.{bytes_eq, chars}
 use Rattle.serde_json.specs.Data.{Data, Items, no_items, item}
 use Rattle.serde_json.specs.Find.{get, as_str, as_object}
+use Rattle.cal_value.specs.declared.limits.TheConstants.{NAME_LIMIT}
 use Rattle.cal_schema.specs.Lookup.{is_same_name}
 use Rattle.model_json.specs.declared.draft.Draft.{Draft}
 use Rattle.model_json.specs.declared.draft.Drafts.{Drafts}
@@ -27,7 +28,7 @@ has_schema s no_items = false
 has_schema s (item d ds) = is_schema_named s d || has_schema s ds
 
 abbrev pub schema_named : Items → List ℕ → Result (Option (List ℕ)) ModelFault
-schema_named schemas s = if nat_le (length (chars s)) 128 && has_schema s schemas then Ok (Some (chars s)) else bad NoSuchName
+schema_named schemas s = if nat_le (length (chars s)) NAME_LIMIT && has_schema s schemas then Ok (Some (chars s)) else bad NoSuchName
 
 -- the name of a schema
 abbrev pub default_schema : Items → Data → Result (Option (List ℕ)) ModelFault

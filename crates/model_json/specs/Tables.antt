@@ -1,13 +1,15 @@
 -- The tables of a schema.
-use Rattle.std.specs.Prelude.{ℕ, ◌==◌, ◌&&◌, ◌-◌, ◌+◌, Bool, false, List, [], ◌∷◌, length, drop, nat_lt, nat_le, if◌then◌else◌, codes, Option, Some, None, Result, Ok}
+use Rattle.std.specs.Prelude.{ℕ, ◌&&◌, ◌+◌, Bool, List, [], ◌∷◌, length, nat_lt, nat_le, if◌then◌else◌, codes, Option, Some, None, Result, Ok}
 use Rattle.std.specs.List.{list_any}
 use Rattle.std.specs.Str.{bytes_eq, chars}
 use Rattle.serde_json.specs.Data.{Data, Items}
 use Rattle.serde_json.specs.Find.{as_number, as_u64}
+use Rattle.cal_value.specs.declared.limits.TheConstants.{ROW_LIMIT, TABLE_LIMIT}
 use Rattle.cal_value.specs.declared.value.Value.{Value}
 use Rattle.cal_schema.specs.declared.column.ColumnDef.{ColumnDef}
 use Rattle.cal_schema.specs.declared.table.AdapterKind.{AdapterKind}
 use Rattle.cal_schema.specs.declared.table.AdapterKind.TheVariants.{Csv, Mem}
+use Rattle.cal_schema.specs.File.{is_compressed}
 use Rattle.cal_schema.specs.Lookup.{is_same_name}
 use Rattle.model_json.specs.declared.draft.Contents.{Contents}
 use Rattle.model_json.specs.declared.draft.Draft.{Draft}
@@ -19,35 +21,23 @@ use Rattle.model_json.specs.Rows.{columns, rows, primary_key, keyed, keys_apart}
 
 -- ---- operands
 
--- the lower-case letter of an upper-case one
-abbrev pub lowered : ℕ → ℕ
-lowered c = if nat_le 65 c && nat_le c 90 then c + 32 else c
-
--- `.gz` in any case
-abbrev pub is_gz : List ℕ → Bool
-is_gz (a ∷ b ∷ c ∷ []) = a == 46 && lowered b == 103 && lowered c == 122
-is_gz s = false
-
-abbrev pub is_compressed : List ℕ → Bool
-is_compressed s = is_gz (drop (length s - 3) s)
-
 -- the name of a file, which isn't compressed
 abbrev pub file : Data → Result (List ℕ) ModelFault
-file d = text d >>= λ s. if is_compressed s then bad Compressed else Ok (chars s)
+file d = text d >>= λ s. if is_compressed (chars s) then bad Compressed else Ok (chars s)
 
 abbrev pub file_at : Data → Result (List ℕ) ModelFault
 file_at operand = field (codes "file") file operand
 
 abbrev pub row_limit : Option ℕ → Result ℕ ModelFault
 row_limit None = bad BadValue
-row_limit (Some n) = if nat_le 1 n && nat_le n 1048576 then Ok n else bad BadValue
+row_limit (Some n) = if nat_le 1 n && nat_le n ROW_LIMIT then Ok n else bad BadValue
 
 -- 1 to 2^20
 abbrev pub max_rows : Data → Result ℕ ModelFault
 max_rows d = of_kind (as_number d) >>= λ n. row_limit (as_u64 n)
 
 abbrev pub most_rows : Data → Result ℕ ModelFault
-most_rows operand = optional (codes "maxRows") 1048576 max_rows operand
+most_rows operand = optional (codes "maxRows") ROW_LIMIT max_rows operand
 
 -- the operand of a table that is read from a file; its primary key is read with the file's header
 abbrev pub csv_operand : Data → Result Contents ModelFault
@@ -131,7 +121,7 @@ table schema_at schema before d = do
   Ok (draft_of schema_at schema (length before) name adapter contents)
 
 abbrev pub table_list : ℕ → List ℕ → ℕ → Items → Result (List Draft) ModelFault
-table_list schema_at schema before ds = if nat_lt 64 (before + count ds) then bad TooMany else each (table schema_at schema) ds
+table_list schema_at schema before ds = if nat_lt TABLE_LIMIT (before + count ds) then bad TooMany else each (table schema_at schema) ds
 
 -- at most 64 tables, with those of the schemas before
 abbrev pub tables : ℕ → List ℕ → ℕ → Data → Result (List Draft) ModelFault

@@ -11,7 +11,7 @@ ghost use Rattle.model_json.specs.Rows as spec;
 use crate::fault::{ModelCause, ModelFault, at_item, at_member, bad};
 use crate::member::{list_of, sql_text, text_of};
 use cal_schema::{ColumnDef, ColumnFault};
-use cal_value::{Duplicate, List, NoMemory, SqlText, SqlType};
+use cal_value::{COLUMN_LIMIT, Duplicate, List, NoMemory, SqlText, SqlType};
 use serde_json::Value as Json;
 use std::alloc::Global;
 
@@ -76,11 +76,11 @@ fn each_column(alloc: Global, values: &[Json]) -> Result<List<ColumnDef>, ModelF
 #[tactic(auto, using(crate::proofs::ItemLemmas::count_items))]
 fn column_list(alloc: Global, values: &[Json]) -> Result<List<ColumnDef>, ModelFault>
     ensures columns { Gives (λ cs. cs) result (spec.column_list (items_view values.now)) }
-    ensures few { IfOk result (λ cs. length cs ≤ 32) }
+    ensures few { IfOk result (λ cs. length cs ≤ COLUMN_LIMIT) }
 {
     if values.len() == 0 {
         Err(bad(alloc, ModelCause::BadValue))
-    } else if values.len() > 32 {
+    } else if values.len() > COLUMN_LIMIT as usize {
         Err(bad(alloc, ModelCause::TooMany))
     } else {
         each_column(alloc, values)
@@ -90,7 +90,7 @@ fn column_list(alloc: Global, values: &[Json]) -> Result<List<ColumnDef>, ModelF
 /// The columns of a table: 1 to 32 texts `NAME:type`, whose names differ.
 pub fn columns(alloc: Global, value: &Json) -> Result<List<ColumnDef>, ModelFault>
     ensures columns { Gives (λ cs. cs) result (spec.columns (view value.now)) }
-    ensures few { IfOk result (λ cs. length cs ≤ 32) }
+    ensures few { IfOk result (λ cs. length cs ≤ COLUMN_LIMIT) }
 {
     let values = list_of(alloc, value)?;
     column_list(alloc, values)
@@ -115,7 +115,7 @@ fn is_among(places: &[u32], place: usize) -> bool
 }
 
 fn fresh_place(alloc: Global, before: &List<u32>, place: Option<usize>) -> Result<u32, ModelFault>
-    requires { IfSome place (λ at. at < 32) }
+    requires { IfSome place (λ at. at < COLUMN_LIMIT) }
     ensures { Gives (λ k. k) result (spec.fresh_place before.now place) }
 {
     match place {
@@ -131,9 +131,9 @@ fn fresh_place(alloc: Global, before: &List<u32>, place: Option<usize>) -> Resul
 }
 
 fn named_place(columns: &List<ColumnDef>, name: &SqlText) -> Option<usize>
-    requires { length columns.now ≤ 32 }
+    requires { length columns.now ≤ COLUMN_LIMIT }
     ensures place { result ≡ spec.place_of columns.now name.now }
-    ensures within { IfSome result (λ at. at < 32) }
+    ensures within { IfSome result (λ at. at < COLUMN_LIMIT) }
 {
     match place_of(columns, name) {
         Some(place) => Some(place),
@@ -147,7 +147,7 @@ fn key_column(
     before: &List<u32>,
     value: &Json,
 ) -> Result<u32, ModelFault>
-    requires { length columns.now ≤ 32 }
+    requires { length columns.now ≤ COLUMN_LIMIT }
     ensures { Gives (λ k. k) result (spec.key_column columns.now before.now (view value.now)) }
 {
     let text = text_of(alloc, value)?;
@@ -161,7 +161,7 @@ fn next_key_column(
     before: &List<u32>,
     value: &Json,
 ) -> Result<u32, ModelFault>
-    requires { length columns.now ≤ 32 }
+    requires { length columns.now ≤ COLUMN_LIMIT }
     ensures { Gives (λ k. k) result (read_item (spec.key_column columns.now) before.now (view value.now)) }
 {
     at_item(
@@ -176,7 +176,7 @@ fn each_key_column(
     columns: &List<ColumnDef>,
     values: &[Json],
 ) -> Result<List<u32>, ModelFault>
-    requires { length columns.now ≤ 32 }
+    requires { length columns.now ≤ COLUMN_LIMIT }
     ensures { Gives (λ ks. ks) result (each (spec.key_column columns.now) (items_view values.now)) }
 {
     let mut key = List::new(alloc);
@@ -188,7 +188,7 @@ fn each_key_column(
 }
 
 fn key(alloc: Global, columns: &List<ColumnDef>, value: &Json) -> Result<List<u32>, ModelFault>
-    requires { length columns.now ≤ 32 }
+    requires { length columns.now ≤ COLUMN_LIMIT }
     ensures { Gives (λ ks. ks) result (spec.key columns.now (view value.now)) }
 {
     let values = list_of(alloc, value)?;
@@ -201,7 +201,7 @@ pub fn primary_key(
     columns: &List<ColumnDef>,
     operand: &Json,
 ) -> Result<List<u32>, ModelFault>
-    requires { length columns.now ≤ 32 }
+    requires { length columns.now ≤ COLUMN_LIMIT }
     ensures { Gives (λ ks. ks) result (spec.primary_key columns.now (view operand.now)) }
 {
     match operand.get("primaryKey") {

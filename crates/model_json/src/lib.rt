@@ -11,8 +11,9 @@ mod schemas;
 mod source;
 mod tables;
 
+pub use draft::{Draft, Drafts};
 pub use fault::{ModelCause, ModelFault};
-pub use model::{Model, ModelDoc, files, read_model, resolve};
+pub use model::{Model, ModelDoc, read_model, resolve};
 pub use source::{TableSource, sources};
 
 #[cfg(test)]

@@ -6,9 +6,9 @@ ghost use Rattle.model_json.specs.Reading.{Gives, field, optional};
 ghost use Rattle.model_json.specs.Kinds as spec;
 
 use crate::fault::{ModelCause, ModelFault, at_member, bad};
-use cal_value::{NoMemory, SqlText};
+use cal_value::{NAME_LIMIT, NoMemory, SqlText, TEXT_LIMIT, characters};
 use serde_json::Value as Json;
-use std::alloc::{AllocError, Global};
+use std::alloc::Global;
 
 /// The value of a member that has to be there.
 pub fn required<'a>(alloc: Global, object: &'a Json, key: &str) -> Result<&'a Json, ModelFault>
@@ -40,8 +40,8 @@ pub fn object_of(alloc: Global, value: &Json) -> Result<&Json, ModelFault>
     }
 }
 
-#[tactic(auto, using(std::proofs::lemmas::Str::chars_from_encodes))]
 /// How many characters a text has.
+#[tactic(auto, using(std::proofs::lemmas::Str::chars_from_encodes))]
 pub fn character_count(text: &str) -> usize
     ensures { result ≡ length (chars text.now) }
 {
@@ -73,17 +73,17 @@ fn short_text(alloc: Global, value: &Json, limit: usize) -> Result<&str, ModelFa
 /// A text of at most 4,000 characters.
 pub fn text_of(alloc: Global, value: &Json) -> Result<&str, ModelFault>
     ensures text { Gives (λ text. text.now) result (spec.text (view value.now)) }
-    ensures short { IfOk result (λ text. length (chars text.now) ≤ 4000) }
+    ensures short { IfOk result (λ text. length (chars text.now) ≤ TEXT_LIMIT) }
 {
-    short_text(alloc, value, 4000)
+    short_text(alloc, value, TEXT_LIMIT as usize)
 }
 
 /// A name of at most 128 characters.
 pub fn name_of(alloc: Global, value: &Json) -> Result<&str, ModelFault>
     ensures name { Gives (λ text. text.now) result (spec.name (view value.now)) }
-    ensures short { IfOk result (λ text. length (chars text.now) ≤ 128) }
+    ensures short { IfOk result (λ text. length (chars text.now) ≤ NAME_LIMIT) }
 {
-    short_text(alloc, value, 128)
+    short_text(alloc, value, NAME_LIMIT as usize)
 }
 
 /// That a text is this word.
@@ -108,17 +108,9 @@ pub fn word_at(alloc: Global, object: &Json, key: &str, word: &str) -> Result<()
     }
 }
 
-/// The characters of a text.
-#[tactic(auto, using(std::proofs::lemmas::Str::chars_from_encodes))]
-fn characters(alloc: Global, text: &str) -> Result<Vec<char>, AllocError>
-    ensures { IfOk result (λ all. all.items ≡ chars text.now) }
-{
-    text.chars().collect(alloc)
-}
-
 /// A text of at most 4,000 characters.
 pub fn sql_text(alloc: Global, text: &str) -> Result<SqlText, NoMemory>
-    requires { length (chars text.now) ≤ 4000 }
+    requires { length (chars text.now) ≤ TEXT_LIMIT }
     ensures { IfOk result (λ t. t ≡ chars text.now) }
 {
     let characters = characters(alloc, text)?;

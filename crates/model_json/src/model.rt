@@ -14,14 +14,15 @@ use crate::fault::{ModelCause, ModelFault, at_item, at_member, bad};
 use crate::member::{list_of, required};
 use crate::schemas::first_walk;
 use cal_schema::{ColumnDef, Schema, TableDef};
-use cal_value::{Duplicate, List, NoMemory, Row, SqlText};
+use cal_value::{COLUMN_LIMIT, Duplicate, List, NoMemory, Row, SqlText, TABLE_LIMIT};
 use serde_json::{Category, Value as Json};
 use std::alloc::Global;
 
-/// A document that the first walk found no fault in.
+/// A document that the first walk found no fault in, and what it gave.
 #[derive(Drop)]
 pub struct ModelDoc {
     pub json: Json,
+    pub drafts: Drafts,
 }
 
 /// The schema of a model, and for each of its tables the rows that stand in the model, where they do.
@@ -47,56 +48,24 @@ fn document(alloc: Global, bytes: &[u8]) -> Result<Json, ModelFault>
 
 fn checked(alloc: Global, json: Json) -> Result<ModelDoc, ModelFault>
     ensures document { Gives (λ doc. view doc.json) result (spec.checked (view json)) }
-    ensures checked { IfOk result (λ doc. spec.IsChecked (view doc.json)) }
+    ensures walked { IfOk result spec.IsWalked }
 {
-    let _drafts = first_walk(alloc, &json)?;
-    Ok(ModelDoc { json })
+    let drafts = first_walk(alloc, &json)?;
+    Ok(ModelDoc { json, drafts })
 }
 
-#[tactic(auto, using(crate::proofs::WalkLemmas::model_when_fault))]
 /// The document of a model file. `NotJson` comes exactly where the bytes are no JSON text of at most 127 levels, and
 /// `BadModel` exactly where the first walk finds a fault, which it tells with its path: all but the primary keys of
 /// tables that are read from files, and lattices.
+#[tactic(auto, using(crate::proofs::WalkLemmas::model_when_fault))]
 pub fn read_model(alloc: Global, bytes: &[u8]) -> Result<ModelDoc, ModelFault>
     ensures document { Gives (λ doc. view doc.json) result (spec.read_model bytes.now) }
-    ensures checked { IfOk result (λ doc. spec.IsChecked (view doc.json)) }
-    ensures fault { IfErr result (λ e. (headers : ListOf (Option (ListOf ColumnDef))) → e ≢ faults.NoMemory → spec.model_of bytes.now headers ≡ Err e) }
+    ensures walked { IfOk result spec.IsWalked }
+    ensures fault { IfErr result (λ e. (headers : ListOf (Option (ListOf ColumnDef))) →
+        e ≢ faults.NoMemory → spec.model_of bytes.now headers ≡ Err e) }
 {
     let json = document(alloc, bytes)?;
     checked(alloc, json)
-}
-
-// ---- files
-
-fn file_name(alloc: Global, draft: &Draft) -> Result<Option<SqlText>, NoMemory>
-    ensures { IfOk result (λ name. name ≡ spec.file_name draft.now) }
-{
-    match &draft.rows {
-        Some(_) => Ok(None),
-        None => Ok(Some(draft.table.file.copy(alloc)?)),
-    }
-}
-
-fn file_names(alloc: Global, drafts: &[Draft]) -> Result<List<Option<SqlText>>, NoMemory>
-    ensures { IfOk result (λ names. names ≡ map spec.file_name drafts.now) }
-{
-    let mut names = List::new(alloc);
-    for draft in drafts {
-        names.push(file_name(alloc, draft)?)?;
-    }
-    Ok(names)
-}
-
-/// For each table in order the name of the file that it is read from, and None for a table whose rows stand in the
-/// model.
-pub fn files(alloc: Global, doc: &ModelDoc) -> Result<List<Option<SqlText>>, NoMemory>
-    requires { spec.IsChecked (view doc.now.json) }
-    ensures { IfOk result (λ names. spec.FilesAre names (walk.first_walk (view doc.now.json))) }
-{
-    match first_walk(alloc, &doc.json) {
-        Ok(drafts) => file_names(alloc, drafts.tables.as_slice()),
-        Err(_) => Err(NoMemory),
-    }
 }
 
 // ---- the second walk
@@ -134,7 +103,7 @@ fn file_key(
     columns: &List<ColumnDef>,
     operand: Option<&Json>,
 ) -> Result<List<u32>, ModelFault>
-    requires { length columns.now ≤ 32 }
+    requires { length columns.now ≤ COLUMN_LIMIT }
     ensures { Gives (λ ks. ks) result (spec.file_key columns.now (option_map (λ value. view value.now) operand.entry)) }
 {
     match operand {
@@ -163,7 +132,7 @@ fn file_key_at(
     draft: &Draft,
     columns: &List<ColumnDef>,
 ) -> Result<List<u32>, ModelFault>
-    requires { length columns.now ≤ 32 }
+    requires { length columns.now ≤ COLUMN_LIMIT }
     ensures { Gives (λ ks. ks) result (spec.file_key_at (view document.now) draft.now columns.now) }
 {
     let operand = operand_at(document, draft.schema_at, draft.table_at);
@@ -199,7 +168,7 @@ fn file_table(
     draft: &Draft,
     columns: &List<ColumnDef>,
 ) -> Result<TableDef, ModelFault>
-    requires { length columns.now ≤ 32 }
+    requires { length columns.now ≤ COLUMN_LIMIT }
     ensures { Gives (λ t. t) result (spec.file_table (view document.now) draft.now columns.now) }
 {
     let key = file_key_at(alloc, document, draft, columns)?;
@@ -213,7 +182,7 @@ fn header_at(
 ) -> Result<List<ColumnDef>, NoMemory>
     requires { spec.AreShort headers.now }
     ensures header { IfOk result (λ cs. cs ≡ spec.header_at headers.now number) }
-    ensures short { IfOk result (λ cs. length cs ≤ 32) }
+    ensures short { IfOk result (λ cs. length cs ≤ COLUMN_LIMIT) }
 {
     match headers.get(number) {
         Some(Some(columns)) => columns.copy(alloc),
@@ -349,25 +318,31 @@ fn resolved(
     })
 }
 
-#[tactic(auto, using(crate::proofs::WalkLemmas::model_when_read))]
 /// The model of a document, given for each table that is read from a file the columns of its header, in the order of the
 /// tables. A fault is the first one of the primary keys of those tables, or of lattices. Where rows stand in the model, they
 /// fill their table.
+#[tactic(auto, using(crate::proofs::WalkLemmas::model_when_read))]
 pub fn resolve(
     alloc: Global,
-    doc: &ModelDoc,
+    doc: ModelDoc,
     headers: &List<Option<List<ColumnDef>>>,
 ) -> Result<Model, ModelFault>
-    requires { spec.AreShort headers.now }
-    ensures model { Gives (λ m. m) result (spec.resolve (view doc.now.json) headers.now) }
-    ensures whole { (bytes : ListOf ℕ) → spec.read_model bytes ≡ Ok (view doc.now.json) → Gives (λ m. m) result (spec.model_of bytes headers.now) }
-    ensures few { IfOk result (λ m. length m.schema.tables ≤ 64) }
+    requires walked { spec.IsWalked doc }
+    requires short { spec.AreShort headers.now }
+    ensures model { Gives (λ m. m) result (spec.resolve (view doc.json) headers.now) }
+    ensures whole { (bytes : ListOf ℕ) → spec.read_model bytes ≡ Ok (view doc.json) →
+        Gives (λ m. m) result (spec.model_of bytes headers.now) }
+    ensures few { IfOk result (λ m. length m.schema.tables ≤ TABLE_LIMIT) }
 
     // The schema is valid where each header is that of the file in its place.
-    ensures valid { (names : ListOf (Option (ListOf ℕ))) → spec.FilesAre names (walk.first_walk (view doc.now.json)) → spec.AreHeadersOf names headers.now → IfOk result (λ m. IsValidSchema m.schema) }
-    ensures files { (names : ListOf (Option (ListOf ℕ))) → spec.FilesAre names (walk.first_walk (view doc.now.json)) → IfOk result (λ m. names ≡ map spec.file_of m.schema.tables) }
+    ensures valid { (names : ListOf (Option (ListOf ℕ))) →
+        spec.FilesAre names (walk.first_walk (view doc.json)) →
+        spec.AreHeadersOf names headers.now → IfOk result (λ m. IsValidSchema m.schema) }
+    ensures files { (names : ListOf (Option (ListOf ℕ))) →
+        spec.FilesAre names (walk.first_walk (view doc.json)) →
+        IfOk result (λ m. names ≡ map spec.file_of m.schema.tables) }
     ensures inline { IfOk result (λ m. spec.AreInlineFilled m.schema.tables m.inline) }
 {
-    let drafts = first_walk(alloc, &doc.json)?;
-    resolved(alloc, &doc.json, headers, drafts)
+    let ModelDoc { json, drafts } = doc;
+    resolved(alloc, &json, headers, drafts)
 }

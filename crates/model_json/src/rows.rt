@@ -2,7 +2,7 @@
 ghost use Rattle.std.specs.Prelude.{◌≡◌, [], IfOk};
 ghost use Rattle.std.specs.List.{list_any};
 ghost use Rattle.std.specs.Option.{option_copied};
-ghost use Rattle.cal_value.specs.Order.{column_of};
+ghost use Rattle.cal_value.specs.Logic.{is_null};
 ghost use Rattle.serde_json.specs.View.{view, items_view};
 ghost use Rattle.model_json.specs.Reading.{Gives, each, read_item};
 ghost use Rattle.model_json.specs.Rows as spec;
@@ -10,27 +10,19 @@ ghost use Rattle.model_json.specs.Rows as spec;
 use crate::fault::{ModelCause, ModelFault, at_item, bad};
 use crate::member::{list_of, short, sql_text};
 use cal_schema::ColumnDef;
-use cal_value::{Duplicate, Interval, Kind, List, NoMemory, Row, SqlType, Value};
+use cal_value::{Interval, Kind, List, Row, SqlType, TEXT_LIMIT, Value, values_at};
 use indexmap::IndexSet;
 use serde_json::Value as Json;
 use std::alloc::Global;
-
-fn is_within(range: Interval, number: i64) -> bool
-    ensures { result ≡ spec.is_within range number }
-{
-    match range {
-        Interval::Never => false,
-        Interval::Range { lo, hi } => lo <= i128::from(number) && i128::from(number) <= hi,
-    }
-}
 
 fn whole(alloc: Global, range: Interval, number: Option<i64>) -> Result<Value, ModelFault>
     ensures { Gives (λ v. v) result (spec.whole range number) }
 {
     match number {
         Some(number) => {
-            if is_within(range, number) {
-                Ok(Value::Int(i128::from(number)))
+            let number = i128::from(number);
+            if range.holds(number) {
+                Ok(Value::Int(number))
             } else {
                 Err(bad(alloc, ModelCause::BadValue))
             }
@@ -42,7 +34,7 @@ fn whole(alloc: Global, range: Interval, number: Option<i64>) -> Result<Value, M
 fn text_cell(alloc: Global, text: &str) -> Result<Value, ModelFault>
     ensures { Gives (λ v. v) result (spec.short_cell text.now) }
 {
-    let text = short(alloc, text, 4000)?;
+    let text = short(alloc, text, TEXT_LIMIT as usize)?;
     Ok(Value::Text(sql_text(alloc, text)?))
 }
 
@@ -165,38 +157,10 @@ pub fn rows(
 
 // ---- the keys of rows
 
-fn value_in(alloc: Global, row: &Row, place: u32) -> Result<Value, NoMemory>
-    ensures { IfOk result (λ v. v ≡ column_of row.now place) }
-{
-    match row.get(place as usize) {
-        Some(value) => value.copy(alloc),
-        None => Ok(Value::Null),
-    }
-}
-
-fn key_values(alloc: Global, key: &[u32], row: &Row) -> Result<Row, NoMemory>
-    ensures { IfOk result (λ values. values ≡ spec.key_values key.now row.now) }
-{
-    let mut values = List::new(alloc);
-    for place in key {
-        values.push(value_in(alloc, row, *place)?)?;
-    }
-    Ok(values)
-}
-
-fn is_null(value: &Value) -> bool
-    ensures { result ≡ spec.is_null value.now }
-{
-    match value {
-        Value::Null => true,
-        _ => false,
-    }
-}
-
 fn has_null(values: &[Value]) -> bool
-    ensures { result ≡ list_any spec.is_null values.now }
+    ensures { result ≡ list_any is_null values.now }
 {
-    values.iter().any(|value| is_null(value))
+    values.iter().any(|value| value.is_null())
 }
 
 // Adds the key of one more row.
@@ -222,7 +186,7 @@ fn add_row(
 ) -> Result<(), ModelFault>
     ensures { Gives (λ nothing. before.new.keys) result (spec.row_key_added key.now number before.old.keys row.now) }
 {
-    let values = key_values(alloc, key, row)?;
+    let values = values_at(alloc, row, key)?;
     at_item(alloc, number, add_key(alloc, before, values))
 }
 

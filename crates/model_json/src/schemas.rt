@@ -11,7 +11,7 @@ use crate::member::{
     character_count, list_of, name_of, object_of, required, sql_text, text_of, word_at,
 };
 use crate::tables::tables;
-use cal_value::{Duplicate, List, SqlText};
+use cal_value::{Duplicate, List, NAME_LIMIT, SqlText, TABLE_LIMIT};
 use indexmap::IndexSet;
 use serde_json::Value as Json;
 use std::alloc::Global;
@@ -55,7 +55,7 @@ fn default_schema(
     ensures { Gives (λ t. t) result (spec.default_schema (items_view schemas.now) (view value.now)) }
 {
     let text = text_of(alloc, value)?;
-    if character_count(text) <= 128 && has_schema(schemas, text) {
+    if character_count(text) <= NAME_LIMIT as usize && has_schema(schemas, text) {
         Ok(Some(sql_text(alloc, text)?))
     } else {
         Err(bad(alloc, ModelCause::NoSuchName))
@@ -119,9 +119,9 @@ fn tables_at(
     before: usize,
     schema: &Json,
 ) -> Result<List<Draft>, ModelFault>
-    requires { before ≤ 64 }
+    requires { before ≤ TABLE_LIMIT }
     ensures tables { Gives (λ ts. ts) result (spec.tables_at number name.now before (view schema.now)) }
-    ensures few { IfOk result (λ ts. before + length ts ≤ 64) }
+    ensures few { IfOk result (λ ts. before + length ts ≤ TABLE_LIMIT) }
 {
     match schema.get("tables") {
         Some(value) => at_member(alloc, "tables", tables(alloc, number, name, before, value)),
@@ -136,9 +136,9 @@ fn schema(
     all: &mut Vec<Draft>,
     value: &Json,
 ) -> Result<(), ModelFault>
-    requires { length all.old.items ≤ 64 }
+    requires { length all.old.items ≤ TABLE_LIMIT }
     ensures seen { Gives (λ nothing. spec.seen names.new.keys all.new.items) result (spec.schema number (spec.seen names.old.keys all.old.items) (view value.now)) }
-    ensures few { OnOk result (length all.new.items ≤ 64) }
+    ensures few { OnOk result (length all.new.items ≤ TABLE_LIMIT) }
 {
     let object = object_of(alloc, value)?;
     let name = schema_name_at(alloc, object)?;
@@ -156,16 +156,16 @@ fn next_schema(
     all: &mut Vec<Draft>,
     value: &Json,
 ) -> Result<(), ModelFault>
-    requires { length all.old.items ≤ 64 }
+    requires { length all.old.items ≤ TABLE_LIMIT }
     ensures seen { Gives (λ nothing. spec.seen names.new.keys all.new.items) result (item_in_turn spec.schema number (spec.seen names.old.keys all.old.items) (view value.now)) }
-    ensures few { OnOk result (length all.new.items ≤ 64) }
+    ensures few { OnOk result (length all.new.items ≤ TABLE_LIMIT) }
 {
     at_item(alloc, number, schema(alloc, number, names, all, value))
 }
 
 fn schemas(alloc: Global, values: &[Json]) -> Result<List<Draft>, ModelFault>
     ensures tables { Gives (λ ts. ts) result (spec.schema_tables (items_view values.now)) }
-    ensures few { IfOk result (λ ts. length ts ≤ 64) }
+    ensures few { IfOk result (λ ts. length ts ≤ TABLE_LIMIT) }
 {
     let mut names = IndexSet::new(alloc);
     let mut all = Vec::new(alloc);
@@ -177,7 +177,7 @@ fn schemas(alloc: Global, values: &[Json]) -> Result<List<Draft>, ModelFault>
 
 fn all_schemas(alloc: Global, values: &[Json]) -> Result<List<Draft>, ModelFault>
     ensures tables { Gives (λ ts. ts) result (spec.all_schemas (items_view values.now)) }
-    ensures few { IfOk result (λ ts. length ts ≤ 64) }
+    ensures few { IfOk result (λ ts. length ts ≤ TABLE_LIMIT) }
 {
     at_member(alloc, "schemas", schemas(alloc, values))
 }
@@ -210,7 +210,7 @@ fn list_at<'a>(alloc: Global, root: &'a Json) -> Result<&'a [Json], ModelFault>
 /// What a document says, but for the primary keys of tables that are read from files, and for lattices.
 pub fn first_walk(alloc: Global, value: &Json) -> Result<Drafts, ModelFault>
     ensures drafts { Gives (λ ds. ds) result (spec.first_walk (view value.now)) }
-    ensures few { IfOk result (λ ds. length ds.tables ≤ 64) }
+    ensures few { IfOk result (λ ds. length ds.tables ≤ TABLE_LIMIT) }
 {
     let root = document(alloc, value)?;
     word_at(alloc, root, "version", "1.0")?;

@@ -1,12 +1,11 @@
 //! The tables of a model, with the files that they are read from.
 ghost use Rattle.std.specs.Prelude.{◌≡◌, IfOk, map};
 ghost use Rattle.serde_json.specs.View.{view};
-ghost use Rattle.model_json.specs.ModelOf.{IsChecked};
+ghost use Rattle.model_json.specs.ModelOf.{IsWalked};
 ghost use Rattle.model_json.specs.Sources.{source_of, sources_of};
 
 use crate::draft::Draft;
 use crate::model::ModelDoc;
-use crate::schemas::first_walk;
 use cal_value::{Duplicate, List, NoMemory, SqlText};
 use std::alloc::Global;
 
@@ -41,11 +40,11 @@ fn source(alloc: Global, draft: &Draft) -> Result<TableSource, NoMemory>
     }
 }
 
-fn each_source(alloc: Global, drafts: &[Draft]) -> Result<List<TableSource>, NoMemory>
+fn each_source(alloc: Global, drafts: &List<Draft>) -> Result<List<TableSource>, NoMemory>
     ensures { IfOk result (λ all. all ≡ map source_of drafts.now) }
 {
     let mut all = List::new(alloc);
-    for draft in drafts {
+    for draft in drafts.as_slice() {
         all.push(source(alloc, draft)?)?;
     }
     Ok(all)
@@ -53,11 +52,8 @@ fn each_source(alloc: Global, drafts: &[Draft]) -> Result<List<TableSource>, NoM
 
 /// The tables in order.
 pub fn sources(alloc: Global, doc: &ModelDoc) -> Result<List<TableSource>, NoMemory>
-    requires { IsChecked (view doc.now.json) }
+    requires { IsWalked doc.now }
     ensures { IfOk result (λ all. all ≡ sources_of (view doc.now.json)) }
 {
-    match first_walk(alloc, &doc.json) {
-        Ok(drafts) => each_source(alloc, drafts.tables.as_slice()),
-        Err(_) => Err(NoMemory),
-    }
+    each_source(alloc, &doc.drafts.tables)
 }

@@ -10,54 +10,22 @@ use crate::draft::{Contents, Draft};
 use crate::fault::{ModelCause, ModelFault, at_item, at_member, bad};
 use crate::member::{list_of, name_of, object_of, required, sql_text, text_of, word_at};
 use crate::rows::{keys_apart, rows};
-use cal_schema::{AdapterKind, ColumnDef, TableDef};
-use cal_value::{Duplicate, List, NoMemory, Row, SqlText};
+use cal_schema::{AdapterKind, ColumnDef, TableDef, is_compressed};
+use cal_value::{COLUMN_LIMIT, Duplicate, List, ROW_LIMIT, Row, SqlText, TABLE_LIMIT};
 use serde_json::Value as Json;
 use std::alloc::Global;
 
-/// How many rows a table may have, where its operand doesn't say less.
-pub const ROW_LIMIT: u64 = 1048576;
-
-/// How many tables a model may have.
-pub const TABLE_LIMIT: usize = 64;
-
 // ---- operands
-
-fn lowered(byte: u8) -> u8
-    ensures { result ≡ spec.lowered byte }
-{
-    if b'A' <= byte && byte <= b'Z' {
-        byte + 32
-    } else {
-        byte
-    }
-}
-
-fn is_gz(end: &[u8]) -> bool
-    ensures { result ≡ spec.is_gz end.now }
-{
-    match end {
-        [dot, g, z] => *dot == b'.' && lowered(*g) == b'g' && lowered(*z) == b'z',
-        _ => false,
-    }
-}
-
-fn is_compressed(name: &str) -> bool
-    ensures { result ≡ spec.is_compressed name.now }
-{
-    let bytes = name.as_bytes();
-    let (_, end) = bytes.split_at(bytes.len().saturating_sub(3));
-    is_gz(end)
-}
 
 fn file(alloc: Global, value: &Json) -> Result<SqlText, ModelFault>
     ensures { Gives (λ t. t) result (spec.file (view value.now)) }
 {
     let text = text_of(alloc, value)?;
-    if is_compressed(text) {
+    let name = sql_text(alloc, text)?;
+    if is_compressed(name.as_slice()) {
         Err(bad(alloc, ModelCause::Compressed))
     } else {
-        Ok(sql_text(alloc, text)?)
+        Ok(name)
     }
 }
 
@@ -117,7 +85,7 @@ fn csv_operand(alloc: Global, operand: &Json) -> Result<Contents, ModelFault>
 
 fn columns_at(alloc: Global, operand: &Json) -> Result<List<ColumnDef>, ModelFault>
     ensures columns { Gives (λ cs. cs) result (spec.columns_at (view operand.now)) }
-    ensures few { IfOk result (λ cs. length cs ≤ 32) }
+    ensures few { IfOk result (λ cs. length cs ≤ COLUMN_LIMIT) }
 {
     let value = required(alloc, operand, "columns")?;
     at_member(alloc, "columns", columns(alloc, value))
@@ -141,7 +109,7 @@ fn row_key(
     rows: &List<Row>,
     operand: &Json,
 ) -> Result<List<u32>, ModelFault>
-    requires { length columns.now ≤ 32 }
+    requires { length columns.now ≤ COLUMN_LIMIT }
     ensures { Gives (λ ks. ks) result (spec.row_key columns.now rows.now (view operand.now)) }
 {
     let key = primary_key(alloc, columns, operand)?;
@@ -321,11 +289,11 @@ fn table_list(
     before: usize,
     values: &[Json],
 ) -> Result<List<Draft>, ModelFault>
-    requires { before ≤ 64 }
+    requires { before ≤ TABLE_LIMIT }
     ensures tables { Gives (λ ts. ts) result (spec.table_list schema_at schema.now before (items_view values.now)) }
-    ensures few { IfOk result (λ ts. before + length ts ≤ 64) }
+    ensures few { IfOk result (λ ts. before + length ts ≤ TABLE_LIMIT) }
 {
-    if TABLE_LIMIT - before < values.len() {
+    if TABLE_LIMIT as usize - before < values.len() {
         Err(bad(alloc, ModelCause::TooMany))
     } else {
         each_table(alloc, schema_at, schema, values)
@@ -340,9 +308,9 @@ pub fn tables(
     before: usize,
     value: &Json,
 ) -> Result<List<Draft>, ModelFault>
-    requires { before ≤ 64 }
+    requires { before ≤ TABLE_LIMIT }
     ensures tables { Gives (λ ts. ts) result (spec.tables schema_at schema.now before (view value.now)) }
-    ensures few { IfOk result (λ ts. before + length ts ≤ 64) }
+    ensures few { IfOk result (λ ts. before + length ts ≤ TABLE_LIMIT) }
 {
     let values = list_of(alloc, value)?;
     table_list(alloc, schema_at, schema, before, values)

@@ -1,15 +1,15 @@
 ghost use Rattle.std.specs.Prelude.{◌≤◌, [], ◌∷◌, length, IfOk};
 ghost use Rattle.model_json.specs.ModelOf.{AreShort};
 
-use crate::{Model, ModelCause, ModelFault, files, read_model, resolve};
+use crate::{Model, ModelCause, ModelFault, TableSource, read_model, resolve, sources};
 use cal_schema::{AdapterKind, ColumnDef};
-use cal_value::{List, NoMemory, Row, SqlText, Value};
+use cal_value::{COLUMN_LIMIT, List, NoMemory, Row, SqlText, Value};
 use std::alloc::Global;
 use std::test::Fail;
 
 // The columns of a file: A of whole numbers and B of texts.
 fn header(alloc: Global) -> Result<List<ColumnDef>, Fail>
-    ensures { IfOk result (λ columns. length columns ≤ 32) }
+    ensures { IfOk result (λ columns. length columns ≤ COLUMN_LIMIT) }
 {
     let mut columns = List::new(alloc);
     let column = ColumnDef::parse(alloc, "A:int")?;
@@ -28,15 +28,12 @@ fn header_of(alloc: Global, name: &Option<SqlText>) -> Result<Option<List<Column
     }
 }
 
-fn headers_of(
-    alloc: Global,
-    names: &[Option<SqlText>],
-) -> Result<List<Option<List<ColumnDef>>>, Fail>
+fn headers_of(alloc: Global, tables: &[TableSource]) -> Result<List<Option<List<ColumnDef>>>, Fail>
     ensures { IfOk result AreShort }
 {
     let mut headers = List::new(alloc);
-    for name in names {
-        headers.push(header_of(alloc, name)?)?;
+    for table in tables {
+        headers.push(header_of(alloc, &table.file)?)?;
     }
     Ok(headers)
 }
@@ -47,9 +44,9 @@ fn model(alloc: Global, text: &str) -> Result<Result<Model, ModelFault>, Fail> {
         Ok(doc) => doc,
         Err(fault) => return Ok(Err(fault)),
     };
-    let names = files(alloc, &doc)?;
-    let headers = headers_of(alloc, names.as_slice())?;
-    Ok(resolve(alloc, &doc, &headers))
+    let tables = sources(alloc, &doc)?;
+    let headers = headers_of(alloc, tables.as_slice())?;
+    Ok(resolve(alloc, doc, &headers))
 }
 
 fn is_fault_at<T: Drop>(answer: Result<T, ModelFault>, path: &str, cause: ModelCause) -> bool {

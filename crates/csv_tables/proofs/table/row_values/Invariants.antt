@@ -5,5 +5,5 @@ use Rattle.csv_tables.proofs.table.row_values.Given as goal
 
 abbrev pub invariant-loop-at : goal.invariant-loop-at
 invariant-loop-at l =
-    (field_faults l.number (l.at + 1) (drop l.at l.columns) (drop l.at (fields_of l.record)) ≡ field_faults l.number 1 l.columns (fields_of l.record))
-    × (l.row ++ values_of (drop l.at l.columns) (drop l.at (fields_of l.record)) ≡ values_of l.columns (fields_of l.record))
+    (field_faults l.number (l.at + 1) (drop l.at l.columns) (drop l.at (fields_of l.raw)) ≡ field_faults l.number 1 l.columns (fields_of l.raw))
+    × (l.row ++ values_of (drop l.at l.columns) (drop l.at (fields_of l.raw)) ≡ values_of l.columns (fields_of l.raw))
