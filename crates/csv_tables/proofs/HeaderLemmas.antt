@@ -1,5 +1,5 @@
 -- The walk over the fields of a header.
-use Rattle.std.proofs.Common.{◌≡◌, ◌≤◌, ◌<◌, ◌+◌, ℕ, Bool, true, false, List, [], ◌∷◌, ◌++◌, length, map, Option, Some, None, Err, sym, ap, ◌∙◌, refl, arith, append_assoc, nat_le, if◌then◌else◌}
+use Rattle.std.proofs.Common.{◌≡◌, ◌<◌, ◌+◌, ℕ, Bool, true, false, List, [], ◌∷◌, ◌++◌, length, map, Option, Some, None, Err, sym, ap, ◌∙◌, refl, append_assoc, nat_le, if◌then◌else◌}
 use Rattle.std.proofs.lemmas.Bool.{leb-false}
 use Rattle.cal_value.specs.declared.limits.TheConstants.{COLUMN_LIMIT}
 use Rattle.std.specs.Str.{chars, is_utf8}

@@ -1,5 +1,5 @@
 -- What the first walk answers: tables that are valid but for the columns of files.
-use Rattle.std.proofs.Common.{◌≡◌, ◌<◌, ◌≤◌, ◌+◌, ◌&&◌, ◌^◌, ℕ, suc, true, false, List, [], ◌∷◌, ◌++◌, length, get_or, Option, Some, None, Result, Ok, IfSome, All, AllPairs, refl, sym, ap, subst, ◌∙◌, arith, inl, inr, nat_lt, nat_le, codes, if◌then◌else◌}
+use Rattle.std.proofs.Common.{◌≡◌, ◌<◌, ◌≤◌, ◌+◌, ◌&&◌, ℕ, suc, true, false, List, [], ◌∷◌, ◌++◌, length, get_or, Option, Some, None, Result, Ok, IfSome, All, AllPairs, refl, sym, ap, subst, ◌∙◌, arith, inl, inr, nat_lt, nat_le, codes, if◌then◌else◌}
 use Rattle.std.specs.List.{list_any}
 use Rattle.std.specs.Str.{chars}
 use Rattle.std.proofs.lemmas.Bool.{ltb-false, leb-true, and_parts, or_left, or_right}

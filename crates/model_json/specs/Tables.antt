@@ -1,5 +1,5 @@
 -- The tables of a schema.
-use Rattle.std.specs.Prelude.{ℕ, ◌&&◌, ◌+◌, Bool, List, [], ◌∷◌, length, nat_lt, nat_le, if◌then◌else◌, codes, Option, Some, None, Result, Ok}
+use Rattle.std.specs.Prelude.{ℕ, ◌&&◌, ◌+◌, Bool, List, [], length, nat_lt, nat_le, if◌then◌else◌, codes, Option, Some, None, Result, Ok}
 use Rattle.std.specs.List.{list_any}
 use Rattle.std.specs.Str.{bytes_eq, chars}
 use Rattle.serde_json.specs.Data.{Data, Items}

@@ -561,6 +561,37 @@ fn has_row(alloc: Global, row: &Row, number: i128, truth: Value, text: &str) -> 
     Ok(*row == wanted)
 }
 
+fn is_source(
+    alloc: Global,
+    source: &TableSource,
+    schema: &str,
+    name: &str,
+    file: &str,
+) -> Result<bool, Fail> {
+    let named = is_spelled(alloc, &source.schema, schema)?
+        && is_spelled(alloc, &source.name, name)?;
+    match &source.file {
+        Some(found) => Ok(named && is_spelled(alloc, found, file)?),
+        None => Ok(named && file.is_empty()),
+    }
+}
+
+#[test]
+fn tables_with_their_files(rt: HostRuntime) -> Result<(), Fail> {
+    let alloc = rt.alloc();
+    let Ok(doc) = read_model(alloc, DOCUMENT.as_bytes()) else {
+        assert!(rt; false);
+        return Ok(());
+    };
+    let found = sources(alloc, &doc)?;
+    let wanted = [("S", "C", "c.csv"), ("S", "M", ""), ("U", "M", "")];
+    assert_eq!(rt; found.len(), wanted.len());
+    for (source, (schema, name, file)) in found.as_slice().iter().zip(wanted) {
+        assert!(rt; is_source(alloc, source, schema, name, file)?, "{name}");
+    }
+    Ok(())
+}
+
 #[test]
 fn a_model_of_files_and_rows(rt: HostRuntime) -> Result<(), Fail> {
     let alloc = rt.alloc();
