@@ -5,7 +5,7 @@ use Rattle.cal_outside.specs.Store.{StoreState, RoseFor}
 use Rattle.csv_tables.specs.Header.{header_of}
 use Rattle.csv_tables.specs.declared.fault.CsvFault.{CsvFault}
 use Rattle.csv_tables.specs.declared.fault.CsvFault.TheVariants as csv
-use Rattle.model_json.specs.ModelOf.{IsChecked, read_model}
+use Rattle.model_json.specs.ModelOf.{IsWalked, read_model}
 use Rattle.model_json.specs.Sources.{sources_of}
 use Rattle.model_json.specs.declared.model.ModelDoc.{ModelDoc}
 use Rattle.serde_json.specs.Data.{Data}
@@ -103,7 +103,7 @@ pub record ModelRead (store : StoreState) (name : List ℕ) (new : List FileRead
   pub kept : new ≡ record { name = name; bytes = bytes } ∷ []
   pub read : AreRead store (next_of name) new
   pub is_model : read_model bytes ≡ Ok (view doc.json)
-  pub checked : IsChecked (view doc.json)
+  pub walked : IsWalked doc
 
 -- what was read, and why it ended
 pub record Ended (store store' : StoreState) (name : List ℕ) (new : List FileRead) (result : Result Started StartFault) : Type 0 where

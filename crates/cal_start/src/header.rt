@@ -1,5 +1,5 @@
 ghost use Rattle.std.specs.Prelude.{◌≡◌, ◌≤◌, IfOk, IfSome, Some, length};
-ghost use Rattle.model_json.specs.ModelOf.{AreHeadersOf, AreShort, IsChecked, IsHeaderOf};
+ghost use Rattle.model_json.specs.ModelOf.{AreHeadersOf, AreShort, IsHeaderOf, IsWalked};
 ghost use Rattle.serde_json.specs.View.{view};
 ghost use Rattle.cal_outside.specs.Store.{IsLater};
 ghost use Rattle.cal_start.specs.Ends.{KeepsEach};
@@ -94,7 +94,7 @@ pub(crate) fn read_headers<S: Store>(
     store: &mut S,
     files: &mut Vec<FileRead>,
 ) -> Result<List<Option<List<ColumnDef>>>, StartFault>
-    requires { IsChecked (view doc.now.json) }
+    requires { IsWalked doc.now }
     ensures later { IsLater (S.state store.old) (S.state store.new) }
     ensures each { KeepsEach (S.state store.old) (S.state store.new) files.old.items files.new.items }
     ensures short { IfOk result AreShort }

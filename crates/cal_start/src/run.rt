@@ -1,7 +1,7 @@
 ghost use Rattle.std.specs.Prelude.{◌≡◌, ◌≤◌, [], IfOk, Some, Ok};
 ghost use Rattle.cal_schema.specs.Fits.{Fits};
 ghost use Rattle.cal_schema.specs.Valid.{IsValidSchema};
-ghost use Rattle.model_json.specs.ModelOf.{IsChecked};
+ghost use Rattle.model_json.specs.ModelOf.{IsWalked};
 ghost use Rattle.serde_json.specs.View.{view};
 ghost use Rattle.cal_outside.specs.Store.{IsLater};
 ghost use Rattle.cal_start.specs.Ends.{AreRead, EndCause, KeepsEach};
@@ -62,20 +62,20 @@ fn start_model<S: Store>(
 // Reads the files of the tables, and gives the tables with their rows.
 fn start_tables<S: Store>(
     alloc: Global,
-    doc: &ModelDoc,
+    doc: ModelDoc,
     store: &mut S,
     files: &mut Vec<FileRead>,
 ) -> Result<Started, StartFault>
-    requires { IsChecked (view doc.now.json) }
+    requires { IsWalked doc }
     ensures later { IsLater (S.state store.old) (S.state store.new) }
     ensures each { KeepsEach (S.state store.old) (S.state store.new) files.old.items files.new.items }
     ensures valid { IfOk result (λ started. IsValidSchema started.schema) }
     ensures fits { IfOk result (λ started. Fits started.db started.schema) }
     ensures says { TablesSay (S.state store.old) (S.state store.new)
-        (view doc.now.json) files.old.items files.new.items result }
+        (view doc.json) files.old.items files.new.items result }
 {
     let first = files.len();
-    let headers = match read_headers(alloc, doc, store, files) {
+    let headers = match read_headers(alloc, &doc, store, files) {
         Ok(headers) => headers,
         Err(fault) => return Err(fault),
     };
@@ -112,7 +112,7 @@ fn start_into<S: Store>(
         model.now files.new.items result }
 {
     let doc = start_model(alloc, model, store, files)?;
-    start_tables(alloc, &doc, store, files)
+    start_tables(alloc, doc, store, files)
 }
 
 /// Reads the model, and the file of each table that has one, and gives the tables with their rows. The first fault stops it,

@@ -5,10 +5,10 @@ use Rattle.cal_start.proofs.run.start_tables.Goals as goal
 
 pub all_rows-requires-clause-valid : goal.all_rows-requires-clause-valid
 all_rows-requires-clause-valid g c =
-    let d = view c.args.doc.now.json in
-    rw c.as_slice.ensures (c.in-Ok-resolve.ensures.valid (file_names d) (files_are d c.requires) c.in-Ok.ensures.headers).tables
+    let d = view c.args.doc.json in
+    rw c.as_slice.ensures (c.in-Ok-resolve.ensures.valid (file_names d) (files_are d c.args.doc.drafts c.requires.drafts) c.in-Ok.ensures.headers).tables
 
 pub returns-in-Ok-all_rows-clause-valid : goal.returns-in-Ok-all_rows-clause-valid
 returns-in-Ok-all_rows-clause-valid g c =
-    let d = view c.args.doc.now.json in
-    c.in-Ok-resolve.ensures.valid (file_names d) (files_are d c.requires) c.in-Ok.ensures.headers
+    let d = view c.args.doc.json in
+    c.in-Ok-resolve.ensures.valid (file_names d) (files_are d c.args.doc.drafts c.requires.drafts) c.in-Ok.ensures.headers
