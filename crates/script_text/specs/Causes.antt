@@ -20,7 +20,6 @@ written_text w = qualifier_text w.qualifier ++ name_text w.name
 abbrev pub misfit_text : ℕ → ℤ → ℤ → List ℕ
 misfit_text place lo hi = (codes "MayNotFit place " ++ decimal place) ++ ((codes " lo " ++ number_text lo) ++ (codes " hi " ++ number_text hi))
 
--- want of memory is never told as a cause
 abbrev pub refusal_text : Refusal → List ℕ
 refusal_text (refused.NotToken at) = codes "NotToken at " ++ decimal at
 refusal_text (refused.TooDeep limit) = codes "TooDeep limit " ++ decimal limit
@@ -32,7 +31,7 @@ refusal_text (refused.UnknownTable name) = codes "UnknownTable name " ++ written
 refusal_text (refused.UnknownColumn name) = codes "UnknownColumn name " ++ written_text name
 refusal_text (refused.TypeClash place) = codes "TypeClash place " ++ decimal place
 refusal_text (refused.MayNotFit place lo hi) = misfit_text place lo hi
-refusal_text refused.NoMemory = []
+refusal_text refused.NoMemory = codes "NoMemory"
 
 abbrev pub csv_cause_text : CsvCause → List ℕ
 csv_cause_text csv.NoHeader = codes "NoHeader"
@@ -55,4 +54,4 @@ csv_bad_text at_record column cause = (codes "CsvBad record " ++ decimal at_reco
 abbrev pub csv_fault_text : CsvFault → List ℕ
 csv_fault_text (CsvBad at_record column cause) = csv_bad_text at_record column cause
 csv_fault_text (TableFull limit) = codes "TableFull limit " ++ decimal limit
-csv_fault_text NoMemory = []
+csv_fault_text NoMemory = codes "NoMemory"

@@ -90,7 +90,7 @@ pub fn push_refusal(out: &mut String, refusal: &Refusal) -> Result<(), NoMemory>
         Refusal::UnknownColumn { name } => push_named(out, "UnknownColumn name ", name),
         Refusal::TypeClash { place } => push_counted(out, "TypeClash place ", *place),
         Refusal::MayNotFit { place, lo, hi } => push_misfit(out, *place, *lo, *hi),
-        Refusal::NoMemory => push_text(out, ""),
+        Refusal::NoMemory => push_text(out, "NoMemory"),
     }
 }
 
@@ -144,6 +144,6 @@ pub fn push_csv_fault(out: &mut String, fault: &CsvFault) -> Result<(), NoMemory
             cause,
         } => push_csv_bad(out, *at_record, *column, *cause),
         CsvFault::TableFull { limit } => push_counted(out, "TableFull limit ", *limit),
-        CsvFault::NoMemory => push_text(out, ""),
+        CsvFault::NoMemory => push_text(out, "NoMemory"),
     }
 }

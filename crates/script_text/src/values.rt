@@ -4,7 +4,7 @@ ghost use Rattle.std.specs.List.{list_all};
 ghost use Rattle.sql_text.specs.Tokens.{doubled, quoted};
 ghost use Rattle.script_text.specs.Values as spec;
 
-use cal_value::{NoMemory, Row, SqlText, Value};
+use cal_value::{NoMemory, Row, SqlText, Value, push_characters};
 use itoa::Buffer;
 use std::alloc::Global;
 
@@ -33,16 +33,6 @@ fn prints_plainly(name: &[char]) -> bool
         [first, rest @ ..] => is_name_start(*first) && are_name_parts(rest),
         [] => false,
     }
-}
-
-#[tactic(auto, using(crate::proofs::PrintLemmas::encoded_more))]
-fn push_characters(out: &mut String, text: &[char]) -> Result<(), NoMemory>
-    ensures { OnOk result (string_bytes out.new ≡ string_bytes out.old ++ encode_utf8_all text.now) }
-{
-    for character in text {
-        out.push(*character)?;
-    }
-    Ok(())
 }
 
 // A character of a quoted text, twice where it is the quote.
