@@ -1,5 +1,5 @@
 ghost use Rattle.std.specs.Prelude.{◌≡◌, ◌≤◌, ◌+◌, length, IfOk, OnOk, IsSome, ⊤};
-ghost use Rattle.cal_snapshot.specs.Parts.{rows_of};
+ghost use Rattle.cal_snapshot.specs.Parts.{rows_of, rows_in};
 ghost use Rattle.cal_snapshot.specs.declared.part.Part.TheVariants.{Table};
 
 use crate::request::ScanRequest;
@@ -12,7 +12,7 @@ use std::sync::ledger::Ledger;
 /// How the rows of a table are reached. `takes` says which requests it answers.
 pub trait Adapter {
     ghost use Rattle.adapters.specs.declared.request.ScanRequest.{ScanRequest};
-    ghost use Rattle.adapters.specs.Scan.{scanned, rows_in};
+    ghost use Rattle.adapters.specs.Scan.{scanned};
 
     ghost takes: { Self → ScanRequest → Type 0 };
 
@@ -28,7 +28,8 @@ pub trait Adapter {
     ) -> Result<List<Row>, NoMemory>
         requires there { IsSome (rows_of snapshot.now (Table table)) }
         requires takes { takes self.now request.now }
-        ensures rows { IfOk result (λ rows. rows ≡ scanned request.now (rows_in snapshot.now table)) }
+        ensures rows { IfOk result (λ rows.
+            rows ≡ scanned request.now (rows_in snapshot.now table)) }
         ensures all { OnOk result (steps.new ≡ steps.old + length (rows_in snapshot.now table)) }
         ensures some { steps.old ≤ steps.new }
         ensures most { steps.new ≤ steps.old + length (rows_in snapshot.now table) };

@@ -2,6 +2,7 @@
 #![tactic(auto)]
 
 mod adapter;
+pub mod laws;
 mod request;
 mod walk;
 

@@ -1,5 +1,5 @@
 -- What a snapshot holds: the rows of each part.
-use Rattle.std.specs.Prelude.{ℕ, ◌≡◌, ◌==◌, List, [], length, replicate, Option, position, slice_get}
+use Rattle.std.specs.Prelude.{ℕ, ◌≡◌, ◌==◌, List, [], length, replicate, Option, position, slice_get, unwrap_or}
 use Rattle.std.specs.Option.{option_and_then}
 use Rattle.cal_value.specs.declared.value.Value.{Value}
 use Rattle.cal_schema.specs.declared.tile.TileInfo.{TileInfo}
@@ -30,6 +30,10 @@ rows_of parts (Tile instance) = option_and_then (λ place. slice_get parts.tile_
 -- the row at a place of a part, counted from 0
 abbrev pub row_at : Parts → Part → ℕ → Option (List Value)
 row_at parts part at = option_and_then (λ rows. slice_get rows at) (rows_of parts part)
+
+-- the rows of a table
+abbrev pub rows_in : Parts → ℕ → List (List Value)
+rows_in parts table = unwrap_or (slice_get parts.tables table) []
 
 -- the first snapshot of these tables
 abbrev pub start_of : List (List (List Value)) → Parts

@@ -10,7 +10,7 @@ use std::marker::Model;
 use std::sync::Arc;
 use std::sync::ledger::Ledger;
 
-/// The rows of tables and tiles at one moment. Its rows come out by `take` alone.
+/// The rows of tables and tiles at one moment. Its rows come out by `lend` and `take` alone.
 #[derive(Drop)]
 pub struct Snapshot {
     tables: List<Arc<List<Row>>>,
@@ -26,9 +26,19 @@ impl Model for Snapshot {
 
     ghost Value = { Parts };
 
-    ghost view = { λ s. record { tables = map arc_value s.tables; versions = s.versions; tiles = s.tiles; tile_rows = map arc_value s.tile_rows } };
+    ghost view = { λ s. record {
+      tables = map arc_value s.tables;
+      versions = s.versions;
+      tiles = s.tiles;
+      tile_rows = map arc_value s.tile_rows;
+    } };
 
-    ghost invariant = { λ s. AreParts (record { tables = map arc_value s.tables; versions = s.versions; tiles = s.tiles; tile_rows = map arc_value s.tile_rows }) };
+    ghost invariant = { λ s. AreParts (record {
+      tables = map arc_value s.tables;
+      versions = s.versions;
+      tiles = s.tiles;
+      tile_rows = map arc_value s.tile_rows;
+    }) };
 }
 
 fn rows_at(parts: &List<Arc<List<Row>>>, at: usize) -> Option<&List<Row>>
@@ -41,7 +51,7 @@ fn rows_at(parts: &List<Arc<List<Row>>>, at: usize) -> Option<&List<Row>>
 }
 
 impl Snapshot {
-    ghost use Rattle.cal_snapshot.specs.Parts.{rows_of, row_at, start_of, tile_place};
+    ghost use Rattle.cal_snapshot.specs.Parts.{rows_of, rows_in, row_at, start_of, tile_place};
 
     /// A snapshot of these tables at version 1, without tiles.
     pub fn start(alloc: Global, tables: List<Arc<List<Row>>>) -> Result<Snapshot, NoMemory>
@@ -87,6 +97,17 @@ impl Snapshot {
         }
     }
 
+    /// How many rows the table has, which is there. Takes no memory.
+    pub fn table_len(&self, table: u32) -> u64
+        requires { IsSome (rows_of self.now (Part.Table table)) }
+        ensures { result ≡ length (rows_in self.now table) }
+    {
+        match self.rows_len(Part::Table(table)) {
+            Some(count) => count,
+            None => unreachable!(),
+        }
+    }
+
     /// The version of a table. None comes exactly where there is no such table. Takes no memory.
     pub fn version(&self, table: u32) -> Option<u64>
         ensures { result ≡ slice_get self.now.versions table }
@@ -101,7 +122,20 @@ impl Snapshot {
         &self.tiles
     }
 
-    /// The row of the part at this place, counted from 0. It makes one step, also where there is no memory.
+    /// The row of the part at this place, counted from 0, to look at. It makes one step and takes no memory.
+    pub fn lend<L: Ledger>(&self, part: Part, at: u64, steps: &mut Steps<L>) -> &Row
+        requires { IsSome (row_at self.now part at) }
+        ensures row { row_at self.now part at ≡ Some result.now }
+        ensures step { steps.new ≡ steps.old + 1 }
+    {
+        steps.tick();
+        match self.row(part, at as usize) {
+            Some(row) => row,
+            None => unreachable!(),
+        }
+    }
+
+    /// A copy of the row of the part at this place, counted from 0. It makes one step, also where there is no memory.
     pub fn take<L: Ledger>(
         &self,
         alloc: Global,
@@ -113,11 +147,7 @@ impl Snapshot {
         ensures row { IfOk result (λ row. row_at self.now part at ≡ Some row) }
         ensures step { steps.new ≡ steps.old + 1 }
     {
-        steps.tick();
-        match self.row(part, at as usize) {
-            Some(row) => copy_row(alloc, row),
-            None => unreachable!(),
-        }
+        copy_row(alloc, self.lend(part, at, steps))
     }
 
     fn row(&self, part: Part, at: usize) -> Option<&Row>

@@ -1,4 +1,3 @@
 pub mod Accepted
 pub mod Answered
-pub mod Scanned
 pub mod Tables

@@ -18,7 +18,8 @@ use Rattle.sql_tree.specs.declared.select.TableName.{TableName}
 use Rattle.cal_schema.specs.Lookup.{is_named}
 use Rattle.cal_schema.proofs.NameLemmas.{position-below}
 use Rattle.sql_meaning.specs.Direct.{rows_of}
-use Rattle.sql_meaning.specs.Scope.{Header, single, number_of, columns_of, hidden_by, header_of, scope_of}
+use Rattle.sql_meaning.proofs.OneEntry.{columns-known}
+use Rattle.sql_meaning.specs.Scope.{Header, number_of, columns_of, hidden_by, header, header_of, scope_of}
 
 -- the SELECT has one entry, which hides no column and whose table is this one
 pub record IsOver (schema : Schema) (select : Select) (entry : FromEntry) (number : ℕ) (table : TableDef) : Type 0 where
@@ -28,22 +29,11 @@ pub record IsOver (schema : Schema) (select : Select) (entry : FromEntry) (numbe
   pub within : number < length schema.tables
   pub is : table ≡ get_or schema.tables number table
 
-pub columns-known : (schema : Schema) (name : TableName) (number : ℕ) (table : TableDef) → Some number ≡ number_of schema name → number < length schema.tables → table ≡ get_or schema.tables number table → columns_of schema name ≡ table.columns
-columns-known schema name number table e lt is =
-    ap (λ o. unwrap_or (option_map (λ t. t.columns) (option_and_then (slice_get schema.tables) o)) []) (sym e)
-    ∙ ap (λ o. unwrap_or (option_map (λ t. t.columns) o) []) (slice_get-get_or schema.tables number table lt)
-    ∙ ap (λ (t : TableDef). t.columns) (sym is)
+pub header-known : (schema : Schema) (select : Select) (entry : FromEntry) (number : ℕ) (table : TableDef) → IsOver schema select entry number table → header_of schema entry ≡ header entry table.columns
+header-known schema select entry number table over = ap (header entry) (columns-known schema entry.table number table over.found over.within over.is)
 
-pub header-known : (schema : Schema) (select : Select) (entry : FromEntry) (number : ℕ) (table : TableDef) → IsOver schema select entry number table → header_of schema entry ∷ [] ≡ single entry.alias table.columns
-header-known schema select entry number table over =
-    ap (λ (cs : List ColumnDef). one cs (hidden_by entry.how)) (columns-known schema entry.table number table over.found over.within over.is)
-    ∙ ap (one table.columns) over.shown
-  where
-    one : List ColumnDef → List (List ℕ) → List Header
-    one cs hidden = record { alias = entry.alias; columns = cs; hidden = hidden } ∷ []
-
-pub scope-known : (schema : Schema) (select : Select) (entry : FromEntry) (number : ℕ) (table : TableDef) → IsOver schema select entry number table → scope_of schema select ≡ single entry.alias table.columns
-scope-known schema select entry number table over = ap (map (header_of schema)) over.only ∙ header-known schema select entry number table over
+pub scope-known : (schema : Schema) (select : Select) (entry : FromEntry) (number : ℕ) (table : TableDef) → IsOver schema select entry number table → scope_of schema select ≡ header entry table.columns ∷ []
+scope-known schema select entry number table over = ap (map (header_of schema)) over.only ∙ ap (λ (h : Header). h ∷ []) (header-known schema select entry number table over)
 
 -- ---- its rows
 

@@ -4,11 +4,10 @@ ghost use Rattle.cal_schema.specs.Fits.{Fits};
 ghost use Rattle.sql_meaning.specs.Direct.{direct};
 ghost use Rattle.sql_meaning.specs.Refused.{is_plain};
 ghost use Rattle.sql_validator.specs.Checked.{IsChecked};
-ghost use Rattle.session_lane.specs.Outputs.{HasFewColumns};
+ghost use Rattle.session_lane.specs.Narrow.{HasFewColumns};
 
-use crate::expressions::{condition, outputs};
+use crate::expressions::expressions_over;
 use crate::rows::answer_rows;
-use crate::scan::scan;
 use cal_schema::Schema;
 use cal_snapshot::Snapshot;
 use cal_value::{List, NoMemory, Row};
@@ -33,15 +32,15 @@ pub fn answer_select(
     requires checked { IsChecked schema.now checked.now.select checked.now }
     requires narrow { HasFewColumns schema.now }
     requires fits { Fits (record { tables = snapshot.now.tables }) schema.now }
-    ensures { IfOk result (λ answer. answer.rows ≡ direct checked.now.select schema.now (record { tables = snapshot.now.tables })) }
+    ensures { IfOk result (λ answer.
+        answer.rows
+        ≡ direct checked.now.select schema.now (record { tables = snapshot.now.tables })) }
 {
     let entry = only_entry(&checked.select);
     let number = checked.tables.as_slice()[0];
     let table = &schema.tables.as_slice()[number as usize];
     let columns = table.columns.as_slice();
-    let condition = condition(alloc, &checked.select.filter, &entry.alias, columns)?;
-    let outputs = outputs(alloc, &checked.select.items, &entry.alias, columns)?;
-    let rows = scan(alloc, table.adapter, columns.len(), snapshot, number)?;
-    let rows = answer_rows(alloc, &condition, &outputs, rows)?;
+    let made = expressions_over(alloc, &checked.select, entry, columns)?;
+    let rows = answer_rows(alloc, &made, snapshot, number)?;
     Ok(Answer { rows })
 }

@@ -5,7 +5,6 @@ mod answer;
 mod expressions;
 mod reply;
 mod rows;
-mod scan;
 
 pub use answer::{Answer, answer_select};
 pub use reply::{Cause, Reply};

@@ -1,3 +1,3 @@
 pub mod Nothing
 pub mod OneEntry
-pub mod OnePlace
+pub mod Places

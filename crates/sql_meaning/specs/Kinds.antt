@@ -1,7 +1,9 @@
 -- The kinds of expressions, and the places of those that don't go together.
-use Rattle.std.specs.Prelude.{ℕ, ◌&&◌, Bool, List, [], ◌∷◌, ◌++◌, Option, option_map, unwrap_or, if◌then◌else◌}
+use Rattle.std.specs.Prelude.{ℕ, ◌&&◌, Bool, List, [], ◌∷◌, ◌++◌, Option, Some, None, option_map, unwrap_or, if◌then◌else◌}
 use Rattle.cal_value.specs.declared.kind.Kind.{Kind}
 use Rattle.cal_value.specs.declared.kind.Kind.TheVariants.{Boolean, Integer, Text as TextKind}
+use Rattle.cal_value.specs.declared.operator.Agg.{Agg}
+use Rattle.cal_value.specs.declared.operator.Agg.TheVariants.{Count, Sum, Sum0, Min, Max}
 use Rattle.cal_value.specs.declared.operator.Op.{Op}
 use Rattle.cal_value.specs.declared.operator.Op.TheVariants.{Add, Subtract, Multiply, Divide, And, Or}
 use Rattle.cal_value.specs.declared.value.Value.{Value}
@@ -59,7 +61,26 @@ literal_kinded place (Text t) = record { kind = TextKind; place = place; clashes
 abbrev pub column_kind : Option Kind → Kind
 column_kind kind = unwrap_or kind Boolean
 
--- one level, with what holds of each part in its place; an aggregate is told where it stands
+-- SUM and COUNT are whole numbers, MIN and MAX of their argument's kind
+abbrev pub agg_kind : Agg → Kind → Kind
+agg_kind Count kind = Integer
+agg_kind Sum kind = Integer
+agg_kind Sum0 kind = Integer
+agg_kind Min kind = kind
+agg_kind Max kind = kind
+
+-- SUM takes whole numbers
+abbrev pub agg_clash : ℕ → Agg → Kinded → List ℕ
+agg_clash place Sum a = unless (is_of_kind Integer a) place
+agg_clash place Sum0 a = unless (is_of_kind Integer a) place
+agg_clash place agg a = []
+
+-- without an argument it is COUNT(*)
+abbrev pub aggregate_kinded : ℕ → Agg → Option Kinded → Kinded
+aggregate_kinded place agg None = record { kind = Integer; place = place; clashes = [] }
+aggregate_kinded place agg (Some a) = record { kind = agg_kind agg a.kind; place = place; clashes = agg_clash place agg a ++ a.clashes }
+
+-- one level, with what holds of each part in its place
 abbrev pub kinded_step : List Header → Tree-F Kinded → Kinded
 kinded_step scope (Tree-F.Column place name) = record { kind = column_kind (option_map (λ t. t.kind) (type_in scope name)); place = place; clashes = [] }
 kinded_step scope (Tree-F.Literal place v) = literal_kinded place v
@@ -67,7 +88,7 @@ kinded_step scope (Tree-F.Negate place a) = record { kind = Integer; place = pla
 kinded_step scope (Tree-F.Binary place op a b) = record { kind = op_kind op; place = place; clashes = a.clashes ++ op_clash place op a b ++ b.clashes }
 kinded_step scope (Tree-F.Not place a) = record { kind = Boolean; place = place; clashes = not_boolean a ++ a.clashes }
 kinded_step scope (Tree-F.IsNull place a) = record { kind = Boolean; place = place; clashes = a.clashes }
-kinded_step scope (Tree-F.Aggregate place agg a) = record { kind = Integer; place = place; clashes = place ∷ [] }
+kinded_step scope (Tree-F.Aggregate place agg a) = aggregate_kinded place agg a
 
 abbrev pub kinded : List Header → Tree → Kinded
 kinded scope tree = fold-Tree Kinded (kinded_step scope) tree

@@ -31,9 +31,12 @@ abbrev pub item_names : ℕ → List Item → List (List ℕ)
 item_names k [] = []
 item_names k (item ∷ items) = item_name k item ∷ item_names (k + 1) items
 
--- the names of every entry's columns in order, without those of its own USING
+-- the names of the entry's columns in order, without those of its own USING
+abbrev pub shown_names : Header → List (List ℕ)
+shown_names h = shown h.hidden h.columns (map (λ c. c.name) h.columns)
+
 abbrev pub star_names : List Header → List (List ℕ)
-star_names scope = flat_map (λ h. shown h.hidden h.columns (map (λ c. c.name) h.columns)) scope
+star_names scope = flat_map shown_names scope
 
 abbrev pub output_names : List Header → Items → List (List ℕ)
 output_names scope Star = star_names scope

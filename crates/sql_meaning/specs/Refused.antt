@@ -1,4 +1,4 @@
--- Why a SELECT over one entry of FROM is refused: the first cause that holds.
+-- Why a plain SELECT is refused: the first cause that holds.
 use Rattle.std.specs.Prelude.{ℕ, ◌==◌, ◌||◌, ◌&&◌, nat_lt, Bool, true, false, not, List, [], ◌∷◌, ◌++◌, length, map, find, Option, Some, None, option_map, unwrap_or, if◌then◌else◌}
 use Rattle.std.specs.List.{flat_map, list_any}
 use Rattle.std.specs.Option.{is_none, option_or}
@@ -136,10 +136,20 @@ all_misfits scope select = flat_map (misfits scope) (trees_of select)
 abbrev pub may_not_fit : List Header → Select → Option Refusal
 may_not_fit scope select = option_map (λ m. MayNotFit m.place m.lo m.hi) (nearest (all_misfits scope select))
 
--- the first cause that holds, in their order
+-- the causes in their order
+abbrev pub causes : Schema → Select → List (Option Refusal)
+causes schema select =
+    unknown_table schema select
+    ∷ unknown_column (scope_of schema select) select
+    ∷ type_clash (scope_of schema select) select
+    ∷ may_not_fit (scope_of schema select) select
+    ∷ []
+
+-- the first that is there
+abbrev pub first_of : {A : Type 0} → List (Option A) → Option A
+first_of [] = None
+first_of (o ∷ os) = option_or o (first_of os)
+
+-- the first cause that holds
 abbrev pub refusal_of : Schema → Select → Option Refusal
-refusal_of schema select =
-    option_or (unknown_table schema select)
-    (option_or (unknown_column (scope_of schema select) select)
-    (option_or (type_clash (scope_of schema select) select)
-    (may_not_fit (scope_of schema select) select)))
+refusal_of schema select = first_of (causes schema select)

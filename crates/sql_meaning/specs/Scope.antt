@@ -37,8 +37,12 @@ hidden_by Cross = []
 hidden_by (Inner cond) = names_used cond
 hidden_by (Left cond) = names_used cond
 
+-- an entry over these columns
+abbrev pub header : FromEntry → List ColumnDef → Header
+header entry columns = record { alias = entry.alias; columns = columns; hidden = hidden_by entry.how }
+
 abbrev pub header_of : Schema → FromEntry → Header
-header_of schema entry = record { alias = entry.alias; columns = columns_of schema entry.table; hidden = hidden_by entry.how }
+header_of schema entry = header entry (columns_of schema entry.table)
 
 -- the entries of FROM from left to right
 abbrev pub scope_of : Schema → Select → List Header
@@ -67,7 +71,3 @@ types_in hs = flat_map (λ h. map (λ c. c.kind) h.columns) hs
 -- the type of the column
 abbrev pub type_in : List Header → ColumnName → Option SqlType
 type_in hs c = option_and_then (slice_get (types_in hs)) (place_of hs c)
-
--- the entries, where there is one that hides no column
-abbrev pub single : List ℕ → List ColumnDef → List Header
-single alias columns = record { alias = alias; columns = columns; hidden = [] } ∷ []

@@ -60,7 +60,7 @@ literal_own place (BoolValue b) = []
 literal_own place (Int n) = own place (Range n n)
 literal_own place (Text t) = []
 
--- one level, with what holds of each part in its place; an aggregate has no type in one row
+-- one level, with what holds of each part in its place. No bound of rows is known here: this speaks of trees without an aggregate
 abbrev pub sized_step : List Header → Tree-F Sized → Sized
 sized_step scope (Tree-F.Column place name) = record { type = option_and_then column_type (type_in scope name); misfits = of_part (column_own place) (type_in scope name) }
 sized_step scope (Tree-F.Literal place v) = record { type = literal_type v; misfits = literal_own place v }

@@ -1,37 +1,48 @@
 //! The columns that names stand for.
-ghost use Rattle.std.specs.Prelude.{◌≡◌, ◌<◌, length, true, position, IfSome, option_map, unwrap_or};
-ghost use Rattle.cal_schema.specs.Lookup.{is_same_name};
-ghost use Rattle.sql_meaning.specs.Scope.{single, place_of};
+ghost use Rattle.std.specs.Prelude.{◌≡◌, ◌<◌, ◌^◌, length, IfSome};
+ghost use Rattle.sql_meaning.specs.Scope.{place_of, type_in, types_in};
 
-use cal_schema::ColumnDef;
-use cal_value::SqlText;
+use crate::entry::Entry;
+use cal_value::SqlType;
 use sql_tree::ColumnName;
 
-fn is_searched(alias: &SqlText, name: &ColumnName) -> bool
-    ensures { result ≡ unwrap_or (option_map (is_same_name alias.now) name.now.alias) true }
+/// How many columns the entries have together. Takes no memory.
+pub fn column_count(scope: &[Entry<'_>]) -> usize
+    requires { length (types_in scope.now) < 2 ^ 32 }
+    ensures { result ≡ length (types_in scope.now) }
 {
-    match &name.alias {
-        Some(written) => *alias == *written,
-        None => true,
+    let mut count = 0;
+    for entry in scope {
+        count += entry.columns().len();
     }
+    count
 }
 
-fn place_named(columns: &[ColumnDef], name: &SqlText) -> Option<usize>
-    ensures { result ≡ position (λ column. is_same_name column.name name.now) columns.now }
+/// The place of the column, counted from 0, among those of all entries. None comes exactly where no entry has it. The
+/// places fit 32 bits. Takes no memory.
+pub fn column_place(scope: &[Entry<'_>], name: &ColumnName) -> Option<usize>
+    requires { length (types_in scope.now) < 2 ^ 32 }
+    ensures place { result ≡ place_of scope.now name.now }
+    ensures within { IfSome result (λ at. at < length (types_in scope.now)) }
 {
-    columns.iter().position(|column| column.name == *name)
+    let mut before = 0;
+    for entry in scope {
+        if let Some(at) = entry.place(name) {
+            return Some(before + at);
+        }
+        before += entry.columns().len();
+    }
+    None
 }
 
-/// The place of the column, counted from 0, among those of the one entry of FROM. None comes exactly where it has no such
-/// column. Takes no memory.
-#[tactic(auto, using(crate::proofs::OnePlace::place_rules))]
-pub fn column_place(alias: &SqlText, columns: &[ColumnDef], name: &ColumnName) -> Option<usize>
-    ensures place { result ≡ place_of (single alias.now columns.now) name.now }
-    ensures within { IfSome result (λ at. at < length columns.now) }
+/// The type of the column. None comes exactly where no entry has it. Takes no memory.
+pub fn column_type(scope: &[Entry<'_>], name: &ColumnName) -> Option<SqlType>
+    ensures { result ≡ type_in scope.now name.now }
 {
-    if is_searched(alias, name) {
-        place_named(columns, &name.name)
-    } else {
-        None
+    for entry in scope {
+        if let Some(at) = entry.place(name) {
+            return Some(entry.columns()[at].kind);
+        }
     }
+    None
 }

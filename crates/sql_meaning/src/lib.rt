@@ -3,22 +3,28 @@
 #![tactic(auto)]
 
 mod columns;
+mod entry;
 mod misfit;
 
-ghost use Rattle.std.specs.Prelude.{◌≡◌, [], ◌∷◌, map, filter};
+ghost use Rattle.std.specs.Prelude.{◌≡◌, [], ◌∷◌, true, map, filter};
 ghost use Rattle.cal_schema.specs.declared.database.Db.{Db};
 ghost use Rattle.cal_schema.specs.declared.schema.Schema.{Schema};
 ghost use Rattle.sql_tree.specs.declared.select.FromEntry.{FromEntry};
 ghost use Rattle.sql_tree.specs.declared.select.Select.{Select};
-ghost use Rattle.sql_meaning.specs.Direct.{direct, rows_of, bound, passes, item_values};
+ghost use Rattle.sql_meaning.specs.Direct.{direct, rows_of, entry_row, keeps, item_values};
+ghost use Rattle.sql_meaning.specs.Refused.{is_plain};
 
-pub use columns::column_place;
+pub use columns::{column_count, column_place, column_type};
+pub use entry::Entry;
 pub use misfit::Misfit;
 
-/// Over one entry of FROM a SELECT means the items of each row of the table of which WHERE is TRUE, in the table's order.
+/// A plain SELECT means the items of each row of its table of which WHERE is TRUE, in the table's order.
 #[tactic(auto, using(crate::proofs::OneEntry::direct_of_one))]
 pub fn one_entry_is_one_walk()
-    ensures { (select : Select) (schema : Schema) (db : Db) (entry : FromEntry) → select.from ≡ entry ∷ [] →
-        direct select schema db ≡ map (λ row. item_values select.items (bound schema entry row ∷ []))
-        (filter (λ row. passes select.filter (bound schema entry row ∷ [])) (rows_of schema db entry)) }
+    ensures { (select : Select) (schema : Schema) (db : Db) (entry : FromEntry) →
+        is_plain select ≡ true → select.from ≡ entry ∷ [] →
+        direct select schema db
+        ≡ map (λ row. item_values select.items (entry_row schema entry row ∷ []))
+        (filter (λ row. keeps select.filter (entry_row schema entry row ∷ []))
+        (rows_of schema db entry)) }
 {}

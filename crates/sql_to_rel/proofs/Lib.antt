@@ -1,4 +1,3 @@
-pub mod Places
 pub mod Rolls
 pub mod Typed
 pub mod Types

@@ -1,5 +1,5 @@
--- A tree of known columns in which kinds go together and everything fits has a type, which is of its kind.
-use Rattle.std.proofs.Common.{◌≡◌, ◌<◌, ◌∙◌, sym, ap, subst, refl, arith, ℕ, zero, suc, ℤ, ◌+ℤ◌, ◌-ℤ◌, ◌*ℤ◌, Bool, true, false, cond, ◌&&◌, List, [], ◌∷◌, ◌++◌, length, find, Option, Some, None, slice_get, unwrap_or, option_map}
+-- A tree of known columns without an aggregate in which kinds go together and everything fits has a type, which is of its kind.
+use Rattle.std.proofs.Common.{◌≡◌, ◌<◌, ◌∙◌, sym, ap, subst, refl, arith, ℕ, zero, suc, ℤ, ◌+ℤ◌, ◌-ℤ◌, ◌*ℤ◌, Bool, true, false, cond, ◌&&◌, ◌||◌, List, [], ◌∷◌, ◌++◌, length, find, Option, Some, None, slice_get, unwrap_or, option_map}
 use Rattle.std.specs.Int.RustNames.{int_div}
 use Rattle.std.specs.Option.{option_and_then, is_none, IsSomeAnd}
 use Rattle.std.proofs.lemmas.List.Folds.{find-append}
@@ -22,11 +22,11 @@ use Rattle.sql_tree.specs.declared.tree.Tree.TheFolds.{fold-roll-Tree, ind-Tree,
 use Rattle.sql_tree.specs.declared.tree.Tree.TheOpen.{Tree-F}
 use Rattle.sql_tree.specs.declared.tree.Tree.TheViews.{roll-Tree}
 use Rattle.sql_meaning.specs.Kinds.{Kinded, kinded, kinded_step, literal_kinded, unless, is_of_kind, not_boolean, op_kind, op_clash, arithmetic_clash}
-use Rattle.sql_meaning.specs.Refused.{columns_in, columns_step, is_unknown_column}
+use Rattle.sql_meaning.specs.Refused.{columns_in, columns_step, is_unknown_column, has_aggregate, aggregate_step}
 use Rattle.sql_meaning.specs.Scope.{Header, place_of, type_in, types_in}
 use Rattle.sql_meaning.specs.Sizes.{Sized, sized, sized_step, own, told, quotient_own, op_own, of_part, of_parts, column_own}
 use Rattle.sql_meaning.proofs.Nothing.{both-empty, or-none}
-use Rattle.sql_to_rel.proofs.Places.{place_of-within}
+use Rattle.sql_meaning.proofs.Places.{place_of-within}
 
 -- ---- nothing is told
 
@@ -58,8 +58,8 @@ truth k l e f = ap (λ m. same_kind m Boolean) (e ∙ f)
 abbrev IsTyped : Kinded → Sized → Type 0
 IsTyped k s = IsSomeAnd s.type (λ t. t.kind ≡ k.kind)
 
-record Sound (scope : List Header) (columns : List ColumnName) (k : Kinded) (s : Sized) : Type 0 where
-  typed : find (is_unknown_column scope) columns ≡ None → k.clashes ≡ [] → s.misfits ≡ [] → IsTyped k s
+record Sound (scope : List Header) (columns : List ColumnName) (aggregate : Bool) (k : Kinded) (s : Sized) : Type 0 where
+  typed : aggregate ≡ false → find (is_unknown_column scope) columns ≡ None → k.clashes ≡ [] → s.misfits ≡ [] → IsTyped k s
 
 -- ---- one level
 
@@ -85,11 +85,11 @@ column-typed place (Some s) t e f = by (is_integer s) refl f
     by true g h = has_number s.nullable s.interval s.kind (same_kind-is s.kind Integer g) (own-fits place s.interval h)
     by false g h = refl
 
-literal-sound : (scope : List Header) (place : ℕ) (v : Value) → Sound scope [] (literal_kinded place v) (sized_step scope (Tree-F.Literal place v))
-literal-sound scope place Null = record { typed = λ known right fits. absurd (cc) }
-literal-sound scope place (BoolValue b) = record { typed = λ known right fits. refl }
-literal-sound scope place (Int n) = record { typed = λ known right fits. has_number false (Range n n) Integer refl (own-fits place (Range n n) fits) }
-literal-sound scope place (Text t) = record { typed = λ known right fits. refl }
+literal-sound : (scope : List Header) (place : ℕ) (v : Value) → Sound scope [] false (literal_kinded place v) (sized_step scope (Tree-F.Literal place v))
+literal-sound scope place Null = record { typed = λ plain known right fits. absurd (cc) }
+literal-sound scope place (BoolValue b) = record { typed = λ plain known right fits. refl }
+literal-sound scope place (Int n) = record { typed = λ plain known right fits. has_number false (Range n n) Integer refl (own-fits place (Range n n) fits) }
+literal-sound scope place (Text t) = record { typed = λ plain known right fits. refl }
 
 negation-typed : (place : ℕ) (k : Kinded) (o : Option SqlType) → IsSomeAnd o (λ t. t.kind ≡ k.kind) → is_of_kind Integer k ≡ true → of_part (λ t. own place (negated t.interval)) o ≡ []
     → IsSomeAnd (option_and_then negation_type o) (λ t. t.kind ≡ Integer)
@@ -173,57 +173,63 @@ ops-typed place op a b None p h k e f = absurd h
 ops-typed place op a b (Some s) None h k e f = absurd k
 ops-typed place op a b (Some s) (Some t) h k e f = op-typed place op a b s t h k e f
 
-binary-sound : (scope : List Header) (place : ℕ) (op : Op) (c d : List ColumnName) (a b : Kinded) (s t : Sized) → Sound scope c a s → Sound scope d b t
-    → Sound scope (c ++ d) (kinded_step scope (Tree-F.Binary place op a b)) (sized_step scope (Tree-F.Binary place op s t))
-binary-sound scope place op c d a b s t h k = record {
-  typed = λ known right fits.
+neither : (p q : Bool) → (p || q) ≡ false → (p ≡ false) × (q ≡ false)
+neither true q e = absurd (cc)
+neither false q e = (refl, e)
+
+binary-sound : (scope : List Header) (place : ℕ) (op : Op) (c d : List ColumnName) (p q : Bool) (a b : Kinded) (s t : Sized) → Sound scope c p a s → Sound scope d q b t
+    → Sound scope (c ++ d) (p || q) (kinded_step scope (Tree-F.Binary place op a b)) (sized_step scope (Tree-F.Binary place op s t))
+binary-sound scope place op c d p q a b s t h k = record {
+  typed = λ plain known right fits.
+      let none = neither p q plain in
       let n = or-none (find (is_unknown_column scope) c) (find (is_unknown_column scope) d) (sym (find-append (is_unknown_column scope) c d) ∙ known) in
       let r = both-empty (a.clashes ++ op_clash place op a b) b.clashes right in
-      let q = both-empty a.clashes (op_clash place op a b) r.0 in
+      let l = both-empty a.clashes (op_clash place op a b) r.0 in
       let f = both-empty (s.misfits ++ of_parts (op_own place op) s.type t.type) t.misfits fits in
       let g = both-empty s.misfits (of_parts (op_own place op) s.type t.type) f.0 in
-      ops-typed place op a b s.type t.type (h.typed n.0 q.0 g.0) (k.typed n.1 r.1 f.1) q.1 g.1;
+      ops-typed place op a b s.type t.type (h.typed none.0 n.0 l.0 g.0) (k.typed none.1 n.1 r.1 f.1) l.1 g.1;
 }
 
 -- ---- a whole tree
 
 abbrev IsSound : List Header → Tree → Type 0
-IsSound scope tree = Sound scope (columns_in tree) (kinded scope tree) (sized scope tree)
+IsSound scope tree = Sound scope (columns_in tree) (has_aggregate tree) (kinded scope tree) (sized scope tree)
 
 abbrev IsSoundLevel : List Header → Tree-F Tree → Type 0
-IsSoundLevel scope x = Sound scope (columns_step (map-Tree Tree (List ColumnName) columns_in x)) (kinded_step scope (map-Tree Tree Kinded (kinded scope) x)) (sized_step scope (map-Tree Tree Sized (sized scope) x))
+IsSoundLevel scope x = Sound scope (columns_step (map-Tree Tree (List ColumnName) columns_in x)) (aggregate_step (map-Tree Tree Bool has_aggregate x)) (kinded_step scope (map-Tree Tree Kinded (kinded scope) x)) (sized_step scope (map-Tree Tree Sized (sized scope) x))
 
 level : (scope : List Header) (y : Tree-F ((t : Tree) × IsSound scope t)) → IsSoundLevel scope (map-Tree ((t : Tree) × IsSound scope t) Tree (λ t. t.0) y)
-level scope (Tree-F.Column place name) = record { typed = λ known right fits. let t = column-known scope name known in column-typed place (type_in scope name) t.0 t.1 fits }
+level scope (Tree-F.Column place name) = record { typed = λ plain known right fits. let t = column-known scope name known in column-typed place (type_in scope name) t.0 t.1 fits }
 level scope (Tree-F.Literal place v) = literal-sound scope place v
 level scope (Tree-F.Negate place a) = record {
-  typed = λ known right fits.
+  typed = λ plain known right fits.
       let r = both-empty (unless (is_of_kind Integer (kinded scope a.0)) place) (kinded scope a.0).clashes right in
       let f = both-empty (of_part (λ t. own place (negated t.interval)) (sized scope a.0).type) (sized scope a.0).misfits fits in
-      negation-typed place (kinded scope a.0) (sized scope a.0).type (a.1.typed known r.1 f.1) (unless-right (is_of_kind Integer (kinded scope a.0)) place r.0) f.0;
+      negation-typed place (kinded scope a.0) (sized scope a.0).type (a.1.typed plain known r.1 f.1) (unless-right (is_of_kind Integer (kinded scope a.0)) place r.0) f.0;
 }
-level scope (Tree-F.Binary place op a b) = binary-sound scope place op (columns_in a.0) (columns_in b.0) (kinded scope a.0) (kinded scope b.0) (sized scope a.0) (sized scope b.0) a.1 b.1
+level scope (Tree-F.Binary place op a b) = binary-sound scope place op (columns_in a.0) (columns_in b.0) (has_aggregate a.0) (has_aggregate b.0) (kinded scope a.0) (kinded scope b.0) (sized scope a.0) (sized scope b.0) a.1 b.1
 level scope (Tree-F.Not place a) = record {
-  typed = λ known right fits.
+  typed = λ plain known right fits.
       let r = both-empty (not_boolean (kinded scope a.0)) (kinded scope a.0).clashes right in
-      not-typed (kinded scope a.0) (sized scope a.0).type (a.1.typed known r.1 fits) (unless-right (is_of_kind Boolean (kinded scope a.0)) (kinded scope a.0).place r.0);
+      not-typed (kinded scope a.0) (sized scope a.0).type (a.1.typed plain known r.1 fits) (unless-right (is_of_kind Boolean (kinded scope a.0)) (kinded scope a.0).place r.0);
 }
-level scope (Tree-F.IsNull place a) = record { typed = λ known right fits. null-typed (kinded scope a.0).kind (sized scope a.0).type (a.1.typed known right fits) }
-level scope (Tree-F.Aggregate place agg a) = record { typed = λ known right fits. absurd (cc) }
+level scope (Tree-F.IsNull place a) = record { typed = λ plain known right fits. null-typed (kinded scope a.0).kind (sized scope a.0).type (a.1.typed plain known right fits) }
+level scope (Tree-F.Aggregate place agg a) = record { typed = λ plain known right fits. absurd (cc) }
 
-carried : (scope : List Header) (c d : List ColumnName) (a b : Kinded) (s t : Sized) → c ≡ d → a ≡ b → s ≡ t → Sound scope c a s → Sound scope d b t
-carried scope c d a b s t e f g h =
-    let P : List ColumnName → Type 0 = λ x. Sound scope x a s in
-    let Q : Kinded → Type 0 = λ x. Sound scope d x s in
-    let R : Sized → Type 0 = λ x. Sound scope d b x in
-    subst R g (subst Q f (subst P e h))
+carried : (scope : List Header) (c d : List ColumnName) (p q : Bool) (a b : Kinded) (s t : Sized) → c ≡ d → p ≡ q → a ≡ b → s ≡ t → Sound scope c p a s → Sound scope d q b t
+carried scope c d p q a b s t e i f g h =
+    let P : List ColumnName → Type 0 = λ x. Sound scope x p a s in
+    let I : Bool → Type 0 = λ x. Sound scope d x a s in
+    let Q : Kinded → Type 0 = λ x. Sound scope d q x s in
+    let R : Sized → Type 0 = λ x. Sound scope d q b x in
+    subst R g (subst Q f (subst I i (subst P e h)))
 
 at_roll : (scope : List Header) (x : Tree-F Tree) → IsSoundLevel scope x → IsSound scope (roll-Tree x)
-at_roll scope x l = carried scope _ _ _ _ _ _ (sym (fold-roll-Tree (List ColumnName) columns_step x)) (sym (fold-roll-Tree Kinded (kinded_step scope) x)) (sym (fold-roll-Tree Sized (sized_step scope) x)) l
+at_roll scope x l = carried scope _ _ _ _ _ _ _ _ (sym (fold-roll-Tree (List ColumnName) columns_step x)) (sym (fold-roll-Tree Bool aggregate_step x)) (sym (fold-roll-Tree Kinded (kinded_step scope) x)) (sym (fold-roll-Tree Sized (sized_step scope) x)) l
 
 sound : (scope : List Header) (tree : Tree) → IsSound scope tree
 sound scope = ind-Tree (IsSound scope) (λ x y is. subst (λ z. IsSound scope (roll-Tree z)) is (at_roll scope _ (level scope y)))
 
-pub typed : (scope : List Header) (tree : Tree) → find (is_unknown_column scope) (columns_in tree) ≡ None → (kinded scope tree).clashes ≡ [] → (sized scope tree).misfits ≡ []
+pub typed : (scope : List Header) (tree : Tree) → has_aggregate tree ≡ false → find (is_unknown_column scope) (columns_in tree) ≡ None → (kinded scope tree).clashes ≡ [] → (sized scope tree).misfits ≡ []
     → IsSomeAnd (sized scope tree).type (λ t. t.kind ≡ (kinded scope tree).kind)
-typed scope tree known right fits = (sound scope tree).typed known right fits
+typed scope tree plain known right fits = (sound scope tree).typed plain known right fits

@@ -10,13 +10,13 @@ use Rattle.sql_tree.specs.declared.tree.Tree.{Tree}
 use Rattle.sql_tree.specs.declared.tree.Tree.TheFolds.{fold-Tree}
 use Rattle.sql_tree.specs.declared.tree.Tree.TheOpen.{Tree-F}
 use Rattle.sql_meaning.specs.Scope.{Header, place_of, types_in}
-use Rattle.sql_meaning.specs.Value.{Bound}
+use Rattle.sql_meaning.specs.Value.{EntryRow}
 
 -- the place of the column among the columns of all entries, and the place past the end where none has it
 abbrev pub column_at : List Header → ColumnName → ℕ
 column_at scope c = unwrap_or (place_of scope c) (length (types_in scope))
 
--- one level, with what each part stands for in its place; an aggregate has no value in one row
+-- one level, with what each part stands for in its place. It speaks of trees without an aggregate
 abbrev pub numbered_step : List Header → Tree-F Expr → Expr
 numbered_step scope (Tree-F.Column place name) = Column (column_at scope name)
 numbered_step scope (Tree-F.Literal place v) = Literal v
@@ -30,12 +30,12 @@ abbrev pub numbered : List Header → Tree → Expr
 numbered scope tree = fold-Tree Expr (numbered_step scope) tree
 
 -- the rows of the entries, one after another
-abbrev pub flat : List Bound → List Value
+abbrev pub flat : List EntryRow → List Value
 flat env = flat_map (λ b. b.row) env
 
 -- the row has a value for each column of its entry
-abbrev pub IsFull : Bound → Type 0
+abbrev pub IsFull : EntryRow → Type 0
 IsFull b = length b.row ≡ length b.header.columns
 
-abbrev pub AreFull : List Bound → Type 0
+abbrev pub AreFull : List EntryRow → Type 0
 AreFull env = All IsFull env

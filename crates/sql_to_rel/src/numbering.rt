@@ -1,41 +1,35 @@
-ghost use Rattle.std.specs.Prelude.{◌≡◌, ◌≤◌, length, IfOk};
-ghost use Rattle.sql_meaning.specs.Scope.{single};
+ghost use Rattle.std.specs.Prelude.{◌≡◌, ◌<◌, ◌^◌, length, IfOk};
+ghost use Rattle.sql_meaning.specs.Scope.{types_in};
 ghost use Rattle.sql_to_rel.specs.Numbered as spec;
 ghost use Rattle.sql_to_rel.specs.Numbered.{numbered};
 
 use cal_expr::Expr;
-use cal_schema::ColumnDef;
-use cal_value::{Duplicate, NoMemory, SqlText, Value};
-use sql_meaning::column_place;
+use cal_value::{Duplicate, NoMemory, Value};
+use sql_meaning::{Entry, column_count, column_place};
 use sql_tree::{ColumnName, Tree};
 use std::alloc::Global;
 
-#[tactic(auto, using(crate::proofs::Places::place_rules))]
-fn column_at(alias: &SqlText, columns: &[ColumnDef], name: &ColumnName) -> u32
-    requires { length columns.now ≤ 32 }
-    ensures { result ≡ spec.column_at (single alias.now columns.now) name.now }
+fn column_at(scope: &[Entry<'_>], name: &ColumnName) -> u32
+    requires { length (types_in scope.now) < 2 ^ 32 }
+    ensures { result ≡ spec.column_at scope.now name.now }
 {
-    match column_place(alias, columns, name) {
+    match column_place(scope, name) {
         Some(at) => at as u32,
-        None => columns.len() as u32,
+        None => column_count(scope) as u32,
     }
 }
 
-/// The expression that the tree stands for, over the columns of the one entry of FROM. A valid table has at most 32 columns.
-pub fn expression(
-    alloc: Global,
-    tree: &Tree,
-    alias: &SqlText,
-    columns: &[ColumnDef],
-) -> Result<Expr, NoMemory>
-    requires { length columns.now ≤ 32 }
-    ensures { IfOk result (λ e. e ≡ numbered (single alias.now columns.now) tree.now) }
+/// The expression that the tree stands for, over the columns of all entries, whose places fit 32 bits. An aggregate stands for
+/// nothing here.
+pub fn expression(alloc: Global, tree: &Tree, scope: &[Entry<'_>]) -> Result<Expr, NoMemory>
+    requires { length (types_in scope.now) < 2 ^ 32 }
+    ensures { IfOk result (λ e. e ≡ numbered scope.now tree.now) }
 {
     match tree {
-        Tree::Column { name, .. } => Ok(Expr::Column(column_at(alias, columns, name))),
+        Tree::Column { name, .. } => Ok(Expr::Column(column_at(scope, name))),
         Tree::Literal { value, .. } => Ok(Expr::Literal(value.copy(alloc)?)),
         Tree::Negate { operand, .. } => {
-            let operand = expression(alloc, operand.get(), alias, columns)?;
+            let operand = expression(alloc, operand.get(), scope)?;
             Expr::negate(alloc, operand)
         }
         Tree::Binary {
@@ -44,16 +38,16 @@ pub fn expression(
             right,
             ..
         } => {
-            let left = expression(alloc, left.get(), alias, columns)?;
-            let right = expression(alloc, right.get(), alias, columns)?;
+            let left = expression(alloc, left.get(), scope)?;
+            let right = expression(alloc, right.get(), scope)?;
             Expr::binary(alloc, *op, left, right)
         }
         Tree::Not { operand, .. } => {
-            let operand = expression(alloc, operand.get(), alias, columns)?;
+            let operand = expression(alloc, operand.get(), scope)?;
             Expr::not(alloc, operand)
         }
         Tree::IsNull { operand, .. } => {
-            let operand = expression(alloc, operand.get(), alias, columns)?;
+            let operand = expression(alloc, operand.get(), scope)?;
             Expr::is_null(alloc, operand)
         }
         Tree::Aggregate { .. } => Ok(Expr::Literal(Value::Null)),

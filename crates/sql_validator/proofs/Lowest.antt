@@ -2,6 +2,8 @@
 use Rattle.std.proofs.Common.{◌≡◌, ◌∙◌, ap, sym, refl, arith, ◌<◌, ◌+◌, length, take, get_or, ℕ, cond, List, [], ◌∷◌, ◌++◌, Option, Some, None}
 use Rattle.std.specs.Prelude.{nat_lt}
 use Rattle.std.proofs.lemmas.Bool.Decides.{nat_tests}
+use Rattle.cal_value.specs.declared.operator.Agg.{Agg}
+use Rattle.cal_value.specs.declared.operator.Agg.TheVariants.{Count, Sum, Sum0, Min, Max}
 use Rattle.cal_value.specs.declared.operator.Op.{Op}
 use Rattle.cal_value.specs.declared.operator.Op.TheVariants.{Add, Subtract, Multiply, Divide, Equal, NotEqual, Less, LessEqual, Greater, GreaterEqual, And, Or}
 use Rattle.cal_value.specs.declared.kind.Kind.{Kind}
@@ -9,8 +11,8 @@ use Rattle.sql_tree.specs.declared.select.Item.{Item}
 use Rattle.sql_tree.specs.declared.tree.Tree.{Tree}
 use Rattle.sql_tree.specs.declared.tree.Tree.TheFolds.{fold-roll-Tree}
 use Rattle.sql_tree.specs.declared.tree.Tree.TheOpen.{Tree-F}
-use Rattle.sql_tree.specs.declared.tree.Tree.TheVariants.{Binary, rolls-Binary}
-use Rattle.sql_meaning.specs.Kinds.{Kinded, kinded, kinded_step, clashes, op_kind, op_clash}
+use Rattle.sql_tree.specs.declared.tree.Tree.TheVariants.{Binary, Aggregate, rolls-Binary, rolls-Aggregate}
+use Rattle.sql_meaning.specs.Kinds.{Kinded, kinded, kinded_step, clashes, op_kind, op_clash, agg_clash, agg_kind, aggregate_kinded}
 use Rattle.sql_meaning.specs.Scope.{Header}
 use Rattle.sql_validator.specs.declared.kinds.Judged.{Judged}
 use Rattle.sql_validator.proofs.Parts.{parts, parts-next}
@@ -46,6 +48,13 @@ op_clash-bare place GreaterEqual a b = refl
 op_clash-bare place And a b = refl
 op_clash-bare place Or a b = refl
 
+pub agg_clash-bare : (place : ℕ) (agg : Agg) (a : Kinded) → agg_clash place agg (bare (judged_of a)) ≡ agg_clash place agg a
+agg_clash-bare place Count a = refl
+agg_clash-bare place Sum a = refl
+agg_clash-bare place Sum0 a = refl
+agg_clash-bare place Min a = refl
+agg_clash-bare place Max a = refl
+
 pub lowest-next : (f : Tree → List ℕ) (items : List Item) (i : ℕ) (item : Item) → item ≡ get_or items i item → i < length items
     → lowest (parts f (take (i + 1) items)) ≡ lower_of (lowest (parts f (take i items))) (lowest (f item.tree))
 lowest-next f items i item is lt = ap lowest (parts-next f items i item is lt) ∙ lowest-append (parts f (take i items)) (f item.tree)
@@ -80,4 +89,24 @@ judged-Binary scope place op l r a b kind own first clash ea eb ek eo ef ec =
     ∙ sym (lowest-append ((kinded scope l).clashes ++ op_clash place op (kinded scope l) (kinded scope r)) (kinded scope r).clashes))
     ∙ ap judged_of (sym (kinded-Binary scope place op l r))
 
-pub ruleset lowest_rules = (lowest-append, op_clash-bare)
+-- of an aggregate with an argument
+pub kinded-Aggregate : (scope : List Header) (place : ℕ) (agg : Agg) (a : Tree) → kinded scope (Aggregate place agg (Some a)) ≡ aggregate_kinded place agg (Some (kinded scope a))
+kinded-Aggregate scope place agg a = ap (kinded scope) (sym (rolls-Aggregate place agg (Some a))) ∙ fold-roll-Tree Kinded (kinded_step scope) (Tree-F.Aggregate place agg (Some a))
+
+pub judged-Aggregate : (scope : List Header) (place : ℕ) (agg : Agg) (a : Tree) (j made : Judged) → j ≡ judged_of (kinded scope a)
+    → made ≡ record { kind = agg_kind agg j.kind; place = place; clash = lower_of (lowest (agg_clash place agg (bare j))) j.clash }
+    → made ≡ judged_of (kinded scope (Aggregate place agg (Some a)))
+judged-Aggregate scope place agg a j made e f =
+    f
+    ∙ ap (λ (x : Judged). of_agg x) e
+    ∙ ap (λ (x : List ℕ). with_clash (lower_of (lowest x) (lowest (kinded scope a).clashes))) (agg_clash-bare place agg (kinded scope a))
+    ∙ ap with_clash (sym (lowest-append (agg_clash place agg (kinded scope a)) (kinded scope a).clashes))
+    ∙ ap judged_of (sym (kinded-Aggregate scope place agg a))
+  where
+    of_agg : Judged → Judged
+    of_agg x = record { kind = agg_kind agg x.kind; place = place; clash = lower_of (lowest (agg_clash place agg (bare x))) x.clash }
+
+    with_clash : Option ℕ → Judged
+    with_clash c = record { kind = agg_kind agg (kinded scope a).kind; place = place; clash = c }
+
+pub ruleset lowest_rules = (lowest-append, op_clash-bare, agg_clash-bare)

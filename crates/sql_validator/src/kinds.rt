@@ -4,13 +4,12 @@ ghost use Rattle.std.specs.List.{flat_map};
 ghost use Rattle.sql_meaning.specs.Kinds as spec;
 ghost use Rattle.sql_meaning.specs.Kinds.{kinded, clashes, condition_clashes};
 ghost use Rattle.sql_meaning.specs.Refused.{all_clashes, item_trees, listed, lowest};
-ghost use Rattle.sql_meaning.specs.Scope.{single, type_in};
+ghost use Rattle.sql_meaning.specs.Scope.{type_in};
 ghost use Rattle.sql_validator.specs.Walks as walks;
 ghost use Rattle.sql_validator.specs.Walks.{judged_of, bare};
 
-use crate::columns::column_type;
-use cal_schema::ColumnDef;
-use cal_value::{Kind, Op, SqlText, Value};
+use cal_value::{Agg, Kind, Op, Value};
+use sql_meaning::{Entry, column_type};
 use sql_tree::{ColumnName, Item, Items, Select, Tree};
 
 /// The kind of an expression, its own place, and the lowest place in it where kinds don't go together.
@@ -90,28 +89,60 @@ fn literal(place: u64, value: &Value) -> Judged
     Judged { kind, place, clash }
 }
 
-fn column_kind(alias: &SqlText, columns: &[ColumnDef], name: &ColumnName) -> Kind
-    ensures { result ≡ spec.column_kind (option_map (λ t. t.kind) (type_in (single alias.now columns.now) name.now)) }
+fn agg_kind(agg: Agg, kind: Kind) -> Kind
+    ensures { result ≡ spec.agg_kind agg kind }
 {
-    match column_type(alias, columns, name) {
+    match agg {
+        Agg::Count | Agg::Sum | Agg::Sum0 => Kind::Integer,
+        Agg::Min | Agg::Max => kind,
+    }
+}
+
+fn agg_clash(place: u64, agg: Agg, a: Judged) -> Option<u64>
+    ensures { result ≡ lowest (spec.agg_clash place agg (bare a)) }
+{
+    match agg {
+        Agg::Sum | Agg::Sum0 => unless(a.kind.is(Kind::Integer), place),
+        Agg::Count | Agg::Min | Agg::Max => None,
+    }
+}
+
+fn aggregate(place: u64, agg: Agg, a: Judged) -> Judged
+    ensures { result ≡ record {
+      kind = spec.agg_kind agg a.kind;
+      place = place;
+      clash = walks.lower_of (lowest (spec.agg_clash place agg (bare a))) a.clash;
+    } }
+{
+    Judged {
+        kind: agg_kind(agg, a.kind),
+        place,
+        clash: lower_of(agg_clash(place, agg, a), a.clash),
+    }
+}
+
+fn column_kind(scope: &[Entry<'_>], name: &ColumnName) -> Kind
+    ensures { result ≡ spec.column_kind (option_map (λ t. t.kind) (type_in scope.now name.now)) }
+{
+    match column_type(scope, name) {
         Some(t) => t.kind,
         None => Kind::Boolean,
     }
 }
 
 #[tactic(auto, using(crate::proofs::Lowest::lowest_rules))]
-fn judge(tree: &Tree, alias: &SqlText, columns: &[ColumnDef]) -> Judged
-    ensures { result ≡ judged_of (kinded (single alias.now columns.now) tree.now) }
+fn judge(tree: &Tree, scope: &[Entry<'_>]) -> Judged
+    ensures { result ≡ judged_of (kinded scope.now tree.now) }
 {
     match tree {
         Tree::Column { place, name } => Judged {
-            kind: column_kind(alias, columns, name),
+            kind: column_kind(scope, name),
             place: *place,
             clash: None,
         },
         Tree::Literal { place, value } => literal(*place, value),
         Tree::Negate { place, operand } => {
-            let a = judge(operand.get(), alias, columns);
+            let a = judge(operand.get(), scope);
             Judged {
                 kind: Kind::Integer,
                 place: *place,
@@ -124,8 +155,8 @@ fn judge(tree: &Tree, alias: &SqlText, columns: &[ColumnDef]) -> Judged
             left,
             right,
         } => {
-            let a = judge(left.get(), alias, columns);
-            let b = judge(right.get(), alias, columns);
+            let a = judge(left.get(), scope);
+            let b = judge(right.get(), scope);
             Judged {
                 kind: op_kind(*op),
                 place: *place,
@@ -133,7 +164,7 @@ fn judge(tree: &Tree, alias: &SqlText, columns: &[ColumnDef]) -> Judged
             }
         }
         Tree::Not { place, operand } => {
-            let a = judge(operand.get(), alias, columns);
+            let a = judge(operand.get(), scope);
             Judged {
                 kind: Kind::Boolean,
                 place: *place,
@@ -143,42 +174,49 @@ fn judge(tree: &Tree, alias: &SqlText, columns: &[ColumnDef]) -> Judged
         Tree::IsNull { place, operand } => Judged {
             kind: Kind::Boolean,
             place: *place,
-            clash: judge(operand.get(), alias, columns).clash,
+            clash: judge(operand.get(), scope).clash,
         },
-        Tree::Aggregate { place, .. } => Judged {
-            kind: Kind::Integer,
-            place: *place,
-            clash: Some(*place),
+        Tree::Aggregate {
+            place,
+            agg,
+            argument,
+        } => match argument {
+            Some(argument) => aggregate(*place, *agg, judge(argument.get(), scope)),
+            None => Judged {
+                kind: Kind::Integer,
+                place: *place,
+                clash: None,
+            },
         },
     }
 }
 
-fn list_clash(items: &[Item], alias: &SqlText, columns: &[ColumnDef]) -> Option<u64>
-    ensures { result ≡ lowest (flat_map (clashes (single alias.now columns.now)) (map (λ item. item.tree) items.now)) }
+fn list_clash(items: &[Item], scope: &[Entry<'_>]) -> Option<u64>
+    ensures { result ≡ lowest (flat_map (clashes scope.now) (map (λ item. item.tree) items.now)) }
 {
     let mut found = None;
     for item in items {
-        found = lower_of(found, judge(&item.tree, alias, columns).clash);
+        found = lower_of(found, judge(&item.tree, scope).clash);
     }
     found
 }
 
-fn items_clash(items: &Items, alias: &SqlText, columns: &[ColumnDef]) -> Option<u64>
-    ensures { result ≡ lowest (flat_map (clashes (single alias.now columns.now)) (item_trees items.now)) }
+fn items_clash(items: &Items, scope: &[Entry<'_>]) -> Option<u64>
+    ensures { result ≡ lowest (flat_map (clashes scope.now) (item_trees items.now)) }
 {
     match items {
         Items::Star => None,
-        Items::Listed(items) => list_clash(items.as_slice(), alias, columns),
+        Items::Listed(items) => list_clash(items.as_slice(), scope),
     }
 }
 
 #[tactic(auto, using(crate::proofs::Lowest::lowest_rules))]
-fn filter_clash(filter: &Option<Tree>, alias: &SqlText, columns: &[ColumnDef]) -> Option<u64>
-    ensures { result ≡ lowest (flat_map (condition_clashes (single alias.now columns.now)) (listed filter.now)) }
+fn filter_clash(filter: &Option<Tree>, scope: &[Entry<'_>]) -> Option<u64>
+    ensures { result ≡ lowest (flat_map (condition_clashes scope.now) (listed filter.now)) }
 {
     match filter {
         Some(tree) => {
-            let a = judge(tree, alias, columns);
+            let a = judge(tree, scope);
             lower_of(not_boolean(a), a.clash)
         }
         None => None,
@@ -187,11 +225,11 @@ fn filter_clash(filter: &Option<Tree>, alias: &SqlText, columns: &[ColumnDef]) -
 
 /// The lowest place at which kinds don't go together.
 #[tactic(auto, using(crate::proofs::Lowest::lowest_rules))]
-pub(crate) fn type_clash(select: &Select, alias: &SqlText, columns: &[ColumnDef]) -> Option<u64>
-    ensures { result ≡ lowest (all_clashes (single alias.now columns.now) select.now) }
+pub(crate) fn type_clash(select: &Select, scope: &[Entry<'_>]) -> Option<u64>
+    ensures { result ≡ lowest (all_clashes scope.now select.now) }
 {
     lower_of(
-        items_clash(&select.items, alias, columns),
-        filter_clash(&select.filter, alias, columns),
+        items_clash(&select.items, scope),
+        filter_clash(&select.filter, scope),
     )
 }

@@ -1,8 +1,7 @@
-//! Why a SELECT over one entry of FROM is refused, and what an accepted one has.
+//! Why a plain SELECT is refused, and what an accepted one has.
 #![tactic(auto)]
 
 mod checked;
-mod columns;
 mod kinds;
 mod known;
 mod names;

@@ -1,12 +1,14 @@
 //! The names of the columns of an answer.
-ghost use Rattle.std.specs.Prelude.{◌≡◌, map, IfOk};
+ghost use Rattle.std.specs.Prelude.{◌≡◌, ◌++◌, ◌∷◌, [], IfOk, OnOk, if◌then◌else◌};
 ghost use Rattle.sql_tree.specs.declared.tree.Tree.TheViews.{out-Tree};
 ghost use Rattle.sql_meaning.specs.Names as spec;
-ghost use Rattle.sql_meaning.specs.Scope.{single};
+ghost use Rattle.sql_meaning.specs.Names.{shown_names};
+ghost use Rattle.sql_meaning.specs.Scope.{is_among};
 
 use cal_schema::ColumnDef;
 use cal_value::{Duplicate, List, NoMemory, SqlText};
 use itoa::Buffer;
+use sql_meaning::Entry;
 use sql_tree::{Item, Items, Tree};
 use std::alloc::Global;
 
@@ -61,13 +63,37 @@ fn item_names(alloc: Global, items: &[Item]) -> Result<List<SqlText>, NoMemory>
     Ok(names)
 }
 
-fn column_names(alloc: Global, columns: &[ColumnDef]) -> Result<List<SqlText>, NoMemory>
-    ensures { IfOk result (λ names. names ≡ map (λ column. column.name) columns.now) }
+fn add_name(
+    alloc: Global,
+    entry: &Entry<'_>,
+    column: &ColumnDef,
+    names: &mut List<SqlText>,
+) -> Result<(), NoMemory>
+    ensures { OnOk result (names.new ≡ names.old ++
+        (if is_among column.now.name entry.now.hidden then [] else column.now.name ∷ [])) }
+{
+    if entry.hides(&column.name) {
+        return Ok(());
+    }
+    names.push(column.name.copy(alloc)?)
+}
+
+fn add_shown(alloc: Global, entry: &Entry<'_>, names: &mut List<SqlText>) -> Result<(), NoMemory>
+    ensures { OnOk result (names.new ≡ names.old ++ shown_names entry.now) }
+{
+    let columns = entry.columns();
+    for column in columns {
+        add_name(alloc, entry, column, names)?;
+    }
+    Ok(())
+}
+
+fn star_names(alloc: Global, scope: &[Entry<'_>]) -> Result<List<SqlText>, NoMemory>
+    ensures { IfOk result (λ names. names ≡ spec.star_names scope.now) }
 {
     let mut names = List::new(alloc);
-    for column in columns {
-        let name = column.name.copy(alloc)?;
-        names.push(name)?;
+    for entry in scope {
+        add_shown(alloc, entry, &mut names)?;
     }
     Ok(names)
 }
@@ -76,14 +102,12 @@ fn column_names(alloc: Global, columns: &[ColumnDef]) -> Result<List<SqlText>, N
 pub(crate) fn output_names(
     alloc: Global,
     items: &Items,
-    alias: &SqlText,
-    columns: &[ColumnDef],
+    scope: &[Entry<'_>],
 ) -> Result<List<SqlText>, NoMemory>
-    ensures { IfOk result (λ names. names ≡ spec.output_names (single alias.now columns.now) items.now) }
+    ensures { IfOk result (λ names. names ≡ spec.output_names scope.now items.now) }
 {
-    let _ = alias;
     match items {
-        Items::Star => column_names(alloc, columns),
+        Items::Star => star_names(alloc, scope),
         Items::Listed(items) => item_names(alloc, items.as_slice()),
     }
 }

@@ -6,17 +6,14 @@ ghost use Rattle.cal_value.specs.Interval.{cut, cut_ends, negated};
 ghost use Rattle.cal_value.specs.Types as types;
 ghost use Rattle.cal_expr.specs.Typing as typing;
 ghost use Rattle.sql_meaning.specs.Refused.{all_misfits, item_trees, listed, nearest};
-ghost use Rattle.sql_meaning.specs.Scope.{single};
 ghost use Rattle.sql_meaning.specs.Sizes as spec;
 ghost use Rattle.sql_meaning.specs.Sizes.{sized, misfits};
 ghost use Rattle.sql_validator.specs.Walks as walks;
 ghost use Rattle.sql_validator.specs.Walks.{weighed_of};
 
-use crate::columns;
 use cal_expr::{column_type, literal_type, negation_type, not_type, op_type};
-use cal_schema::ColumnDef;
-use cal_value::{Interval, Kind, NUMBER_LIMIT, Op, SqlText, SqlType, Value};
-use sql_meaning::Misfit;
+use cal_value::{Interval, Kind, NUMBER_LIMIT, Op, SqlType, Value};
+use sql_meaning::{Entry, Misfit, column_type as type_of_column};
 use sql_tree::{Item, Items, Select, Tree};
 
 /// The type of an expression, where it has one, and in it the misfit with the lowest place.
@@ -114,7 +111,10 @@ fn is_integer(t: SqlType) -> bool
 }
 
 fn column(place: u64, found: Option<SqlType>) -> Weighed
-    ensures { result ≡ record { kind = option_and_then typing.column_type found; misfit = nearest (spec.of_part (spec.column_own place) found) } }
+    ensures { result ≡ record {
+      kind = option_and_then typing.column_type found;
+      misfit = nearest (spec.of_part (spec.column_own place) found);
+    } }
 {
     match found {
         None => Weighed {
@@ -133,7 +133,10 @@ fn column(place: u64, found: Option<SqlType>) -> Weighed
 }
 
 fn literal(place: u64, value: &Value) -> Weighed
-    ensures { result ≡ record { kind = typing.literal_type value.now; misfit = nearest (spec.literal_own place value.now) } }
+    ensures { result ≡ record {
+      kind = typing.literal_type value.now;
+      misfit = nearest (spec.literal_own place value.now);
+    } }
 {
     let misfit = match value {
         Value::Int(n) => own(place, Interval::Range { lo: *n, hi: *n }),
@@ -147,7 +150,10 @@ fn literal(place: u64, value: &Value) -> Weighed
 
 #[tactic(auto, using(crate::proofs::Nearest::own_rules))]
 fn negation(place: u64, operand: Option<SqlType>) -> Weighed
-    ensures { result ≡ record { kind = option_and_then typing.negation_type operand; misfit = nearest (spec.of_part (λ t. spec.own place (negated t.interval)) operand) } }
+    ensures { result ≡ record {
+      kind = option_and_then typing.negation_type operand;
+      misfit = nearest (spec.of_part (λ t. spec.own place (negated t.interval)) operand);
+    } }
 {
     match operand {
         None => Weighed {
@@ -162,14 +168,14 @@ fn negation(place: u64, operand: Option<SqlType>) -> Weighed
 }
 
 #[tactic(auto, using(crate::proofs::Nearest::nearest_rules))]
-fn weigh(tree: &Tree, alias: &SqlText, columns: &[ColumnDef]) -> Weighed
-    ensures { result ≡ weighed_of (sized (single alias.now columns.now) tree.now) }
+fn weigh(tree: &Tree, scope: &[Entry<'_>]) -> Weighed
+    ensures { result ≡ weighed_of (sized scope.now tree.now) }
 {
     match tree {
-        Tree::Column { place, name } => column(*place, columns::column_type(alias, columns, name)),
+        Tree::Column { place, name } => column(*place, type_of_column(scope, name)),
         Tree::Literal { place, value } => literal(*place, value),
         Tree::Negate { place, operand } => {
-            let a = weigh(operand.get(), alias, columns);
+            let a = weigh(operand.get(), scope);
             let own = negation(*place, a.kind);
             Weighed {
                 kind: own.kind,
@@ -182,8 +188,8 @@ fn weigh(tree: &Tree, alias: &SqlText, columns: &[ColumnDef]) -> Weighed
             left,
             right,
         } => {
-            let a = weigh(left.get(), alias, columns);
-            let b = weigh(right.get(), alias, columns);
+            let a = weigh(left.get(), scope);
+            let b = weigh(right.get(), scope);
             let own = parts_own(*place, *op, a.kind, b.kind);
             Weighed {
                 kind: parts_type(*op, a.kind, b.kind),
@@ -191,14 +197,14 @@ fn weigh(tree: &Tree, alias: &SqlText, columns: &[ColumnDef]) -> Weighed
             }
         }
         Tree::Not { operand, .. } => {
-            let a = weigh(operand.get(), alias, columns);
+            let a = weigh(operand.get(), scope);
             Weighed {
                 kind: a.kind.and_then(|t| not_type(t)),
                 misfit: a.misfit,
             }
         }
         Tree::IsNull { operand, .. } => {
-            let a = weigh(operand.get(), alias, columns);
+            let a = weigh(operand.get(), scope);
             Weighed {
                 kind: a.kind.map(|_| SqlType::boolean(false)),
                 misfit: a.misfit,
@@ -211,46 +217,42 @@ fn weigh(tree: &Tree, alias: &SqlText, columns: &[ColumnDef]) -> Weighed
     }
 }
 
-fn list_misfit(items: &[Item], alias: &SqlText, columns: &[ColumnDef]) -> Option<Misfit>
-    ensures { result ≡ nearest (flat_map (misfits (single alias.now columns.now)) (map (λ item. item.tree) items.now)) }
+fn list_misfit(items: &[Item], scope: &[Entry<'_>]) -> Option<Misfit>
+    ensures { result ≡ nearest (flat_map (misfits scope.now) (map (λ item. item.tree) items.now)) }
 {
     let mut found = None;
     for item in items {
-        found = nearer_of(found, weigh(&item.tree, alias, columns).misfit);
+        found = nearer_of(found, weigh(&item.tree, scope).misfit);
     }
     found
 }
 
-fn items_misfit(items: &Items, alias: &SqlText, columns: &[ColumnDef]) -> Option<Misfit>
-    ensures { result ≡ nearest (flat_map (misfits (single alias.now columns.now)) (item_trees items.now)) }
+fn items_misfit(items: &Items, scope: &[Entry<'_>]) -> Option<Misfit>
+    ensures { result ≡ nearest (flat_map (misfits scope.now) (item_trees items.now)) }
 {
     match items {
         Items::Star => None,
-        Items::Listed(items) => list_misfit(items.as_slice(), alias, columns),
+        Items::Listed(items) => list_misfit(items.as_slice(), scope),
     }
 }
 
 #[tactic(auto, using(crate::proofs::Nearest::nearest_rules))]
-fn filter_misfit(filter: &Option<Tree>, alias: &SqlText, columns: &[ColumnDef]) -> Option<Misfit>
-    ensures { result ≡ nearest (flat_map (misfits (single alias.now columns.now)) (listed filter.now)) }
+fn filter_misfit(filter: &Option<Tree>, scope: &[Entry<'_>]) -> Option<Misfit>
+    ensures { result ≡ nearest (flat_map (misfits scope.now) (listed filter.now)) }
 {
     match filter {
-        Some(tree) => weigh(tree, alias, columns).misfit,
+        Some(tree) => weigh(tree, scope).misfit,
         None => None,
     }
 }
 
 /// The misfit with the lowest place.
 #[tactic(auto, using(crate::proofs::Nearest::nearest_rules))]
-pub(crate) fn nearest_misfit(
-    select: &Select,
-    alias: &SqlText,
-    columns: &[ColumnDef],
-) -> Option<Misfit>
-    ensures { result ≡ nearest (all_misfits (single alias.now columns.now) select.now) }
+pub(crate) fn nearest_misfit(select: &Select, scope: &[Entry<'_>]) -> Option<Misfit>
+    ensures { result ≡ nearest (all_misfits scope.now select.now) }
 {
     nearer_of(
-        items_misfit(&select.items, alias, columns),
-        filter_misfit(&select.filter, alias, columns),
+        items_misfit(&select.items, scope),
+        filter_misfit(&select.filter, scope),
     )
 }

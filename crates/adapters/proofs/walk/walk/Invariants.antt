@@ -1,5 +1,6 @@
 use Rattle.std.proofs.Common.{◌≡◌, ◌+◌, ◌++◌, drop}
-use Rattle.adapters.specs.Scan.{rows_in, scanned}
+use Rattle.cal_snapshot.specs.Parts.{rows_in}
+use Rattle.adapters.specs.Scan.{scanned}
 use Rattle.adapters.proofs.walk.walk.Given as goal
 
 abbrev pub invariant-loop-at : goal.invariant-loop-at

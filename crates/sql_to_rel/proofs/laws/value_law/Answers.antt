@@ -2,4 +2,4 @@ use Rattle.sql_to_rel.proofs.Values.{meaning_of-numbered}
 use Rattle.sql_to_rel.proofs.laws.value_law.Goals as goal
 
 pub returns : goal.returns
-returns c = λ env tree full. meaning_of-numbered env full tree
+returns c = λ env tree plain full. meaning_of-numbered env full tree

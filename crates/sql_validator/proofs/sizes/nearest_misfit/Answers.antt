@@ -1,6 +1,5 @@
-use Rattle.sql_meaning.specs.Scope.{single}
 use Rattle.sql_validator.proofs.Nearest.{nearest-all}
 use Rattle.sql_validator.proofs.sizes.nearest_misfit.Goals as goal
 
 pub returns : goal.returns
-returns c = nearest-all (single c.args.alias.now c.args.columns.now) c.args.select.now c.items_misfit.result c.filter_misfit.result _ c.items_misfit.ensures c.filter_misfit.ensures c.nearer_of.ensures
+returns c = nearest-all c.args.scope.now c.args.select.now c.items_misfit.result c.filter_misfit.result _ c.items_misfit.ensures c.filter_misfit.ensures c.nearer_of.ensures
