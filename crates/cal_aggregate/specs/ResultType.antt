@@ -32,7 +32,7 @@ abbrev pub with_zero : Interval → Interval
 with_zero Never = Range (pos 0) (pos 0)
 with_zero (Range lo hi) = Range (int_min lo (pos 0)) (int_max hi (pos 0))
 
--- over at most n values of the argument's type. COUNT alone takes no argument
+-- over at most n values of the argument's type. COUNT alone has a type without one, as COUNT(*)
 abbrev pub agg_type : Agg → Option SqlType → ℕ → Option SqlType
 agg_type Count argument n = number_type false (counts n)
 agg_type Sum (Some t) n = if is_integer t then number_type true (sums n t.interval) else None

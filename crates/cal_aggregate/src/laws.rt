@@ -15,7 +15,8 @@ use cal_value::{Agg, List, SqlType, Value};
 /// Counts and sums in other words: the number of values that aren't NULL, and the sum of the numbers.
 #[tactic(auto, using(crate::proofs::AggregateFolds::aggregate_laws))]
 pub fn counts_and_sums_law(values: &List<Value>)
-    ensures count { aggregated Agg.Count values.now ≡ Int (pos (count_by (λ v. not (is_null v)) values.now)) }
+    ensures count { aggregated Agg.Count values.now
+        ≡ Int (pos (count_by (λ v. not (is_null v)) values.now)) }
     ensures sum { aggregated Agg.Sum values.now ≡ sum_of (numbers values.now) }
     ensures sum0 { aggregated Agg.Sum0 values.now ≡ Int (fold ◌+ℤ◌ (pos 0) (numbers values.now)) }
 {

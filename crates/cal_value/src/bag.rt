@@ -19,7 +19,8 @@ fn count_of(row: &Row, rows: &List<Row>) -> usize
 }
 
 fn counts_agree(of: &List<Row>, a: &List<Row>, b: &List<Row>) -> bool
-    ensures { result ≡ list_all (λ r. count_by (row_eq r) a.now == count_by (row_eq r) b.now) of.now }
+    ensures { result
+        ≡ list_all (λ r. count_by (row_eq r) a.now == count_by (row_eq r) b.now) of.now }
 {
     of.as_slice()
         .iter()

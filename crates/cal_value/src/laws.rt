@@ -92,7 +92,8 @@ pub fn narrower_operands_law(i: Interval, j: Interval, k: Interval, l: Interval)
     ensures sum { IsWithin (at_ends ◌+ℤ◌ i j) (at_ends ◌+ℤ◌ k l) }
     ensures difference { IsWithin (at_ends ◌-ℤ◌ i j) (at_ends ◌-ℤ◌ k l) }
     ensures product { IsWithin (at_ends ◌*ℤ◌ i j) (at_ends ◌*ℤ◌ k l) }
-    ensures quotient { IsTrue (excludes_zero l) → IsWithin (at_ends int_div i j) (at_ends int_div k l) }
+    ensures quotient { IsTrue (excludes_zero l)
+        → IsWithin (at_ends int_div i j) (at_ends int_div k l) }
     ensures divisor { IsTrue (excludes_zero l) → IsTrue (excludes_zero j) }
     ensures negation { IsWithin (negated i) (negated k) }
     ensures range { IsTrue (is_in_range k) → IsTrue (is_in_range i) }
@@ -119,7 +120,8 @@ pub fn wider_type_law(value: &Value, s: SqlType, t: SqlType)
 /// The same of a row.
 #[tactic(auto, using(crate::proofs::TypeLaws::type_laws))]
 pub fn wider_types_law(row: &Row, types: &List<SqlType>, wider: &List<SqlType>)
-    ensures { AreAtMostAsWide types.now wider.now → HasTypes row.now types.now → HasTypes row.now wider.now }
+    ensures { AreAtMostAsWide types.now wider.now
+        → HasTypes row.now types.now → HasTypes row.now wider.now }
 {
     let _ = row;
     let _ = types;

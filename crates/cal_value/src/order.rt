@@ -75,7 +75,8 @@ pub fn compare(a: &Value, b: &Value, key: &KeyOrder) -> Ordering
 
 // Two rows in one column. A column past a row's end counts as NULL.
 fn compare_in(a: &Row, b: &Row, key: &KeyOrder) -> Ordering
-    ensures { result ≡ key_cmp key.now (column_of a.now key.now.column) (column_of b.now key.now.column) }
+    ensures { result
+        ≡ key_cmp key.now (column_of a.now key.now.column) (column_of b.now key.now.column) }
 {
     let null = Value::Null;
     let a = a.get(key.column as usize).unwrap_or(&null);

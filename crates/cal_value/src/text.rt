@@ -59,7 +59,8 @@ pub fn characters(alloc: Global, text: &str) -> Result<Vec<char>, NoMemory>
 /// Adds the characters at the end of `out`. Where there is no memory, the first ones may stand there.
 #[tactic(auto, using(crate::proofs::TextLemmas::encoded_more))]
 pub fn push_characters(out: &mut String, text: &[char]) -> Result<(), NoMemory>
-    ensures { OnOk result (string_bytes out.new ≡ string_bytes out.old ++ encode_utf8_all text.now) }
+    ensures { OnOk result
+        (string_bytes out.new ≡ string_bytes out.old ++ encode_utf8_all text.now) }
 {
     for character in text {
         out.push(*character)?;
