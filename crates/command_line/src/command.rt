@@ -4,6 +4,7 @@ ghost use Rattle.clap.specs.Simple.{app_of, with_rule};
 ghost use Rattle.clap.specs.Walk.{rule_of};
 ghost use Rattle.command_line.specs.Reading.{word_rule, budget_rule, bare_shape, calq};
 
+use cal_value::BUDGET_LIMIT;
 use clap::builder::ValueParser;
 use clap::{Arg, ArgAction, Command};
 use std::alloc::{AllocError, Global};
@@ -22,7 +23,7 @@ fn budget_argument<'a>(alloc: Global) -> Arg<'a>
     Arg::new(alloc, "budget")
         .long("budget")
         .action(ArgAction::Set)
-        .value_parser(ValueParser::unsigned(1, 20000))
+        .value_parser(ValueParser::unsigned(1, BUDGET_LIMIT))
 }
 
 fn bare_command<'a>(alloc: Global) -> Command<'a>

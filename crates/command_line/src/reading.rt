@@ -1,5 +1,6 @@
 //! What the words ask.
-ghost use Rattle.std.specs.Prelude.{◌≡◌, IfOk, map, encode_utf8_all, codes};
+ghost use Rattle.std.specs.Prelude.{◌≡◌, ◌↔◌, [], None, IfOk, map, encode_utf8_all, codes, unwrap_or};
+ghost use Rattle.std.specs.Str.{chars};
 ghost use Rattle.clap.specs.Matches.{first_value, found_of};
 ghost use Rattle.command_line.specs.Reading as spec;
 
@@ -27,17 +28,25 @@ fn texts_of<'a>(alloc: Global, words: &'a [Word]) -> Result<Vec<&'a str>, NoMemo
     Ok(texts)
 }
 
-fn asked_in(alloc: Global, matches: &ArgMatches<'_>) -> Result<Option<Asked>, NoMemory>
-    ensures { IfOk result (λ found. found ≡ spec.asked (first_value (found_of matches.now) (codes "MODEL")) (first_value (found_of matches.now) (codes "SQL"))) }
+// The word of this name.
+fn word_in(alloc: Global, matches: &ArgMatches<'_>, id: &str) -> Result<Word, NoMemory>
+    ensures { IfOk result (λ word. word
+        ≡ chars (unwrap_or (first_value (found_of matches.now) id.now) [])) }
 {
-    match (matches.get_str("MODEL"), matches.get_str("SQL")) {
-        (Some(model), Some(sql)) => {
-            let model = Word::of(alloc, model)?;
-            let sql = Word::of(alloc, sql)?;
-            Ok(Some(Asked { model, sql }))
-        }
-        _ => Ok(None),
+    match matches.get_str(id) {
+        Some(text) => Word::of(alloc, text),
+        None => Word::of(alloc, ""),
     }
+}
+
+fn asked_in(alloc: Global, matches: &ArgMatches<'_>) -> Result<Asked, NoMemory>
+    ensures { IfOk result (λ found. found
+        ≡ spec.asked (first_value (found_of matches.now) (codes "MODEL"))
+        (first_value (found_of matches.now) (codes "SQL"))) }
+{
+    let model = word_in(alloc, matches, "MODEL")?;
+    let sql = word_in(alloc, matches, "SQL")?;
+    Ok(Asked { model, sql })
 }
 
 fn matched(alloc: Global, texts: &[&str]) -> Result<Option<Asked>, NoMemory>
@@ -45,7 +54,10 @@ fn matched(alloc: Global, texts: &[&str]) -> Result<Option<Asked>, NoMemory>
 {
     let command = calq_command(alloc)?;
     match command.try_get_matches_from(texts) {
-        Ok(matches) => asked_in(alloc, &matches),
+        Ok(matches) => {
+            let asked = asked_in(alloc, &matches)?;
+            Ok(Some(asked))
+        }
         Err(error) => match error.kind() {
             ErrorKind::OutOfMemory => Err(NoMemory),
             _ => Ok(None),
@@ -53,11 +65,18 @@ fn matched(alloc: Global, texts: &[&str]) -> Result<Option<Asked>, NoMemory>
     }
 }
 
-/// What the words ask, which are those after the program's name: None exactly where `calq MODEL SQL [--budget N]` has no
-/// matches for them. N is a whole number from 1 to 20,000, and has no effect yet.
-pub fn read_words(alloc: Global, words: &[Word]) -> Result<Option<Asked>, NoMemory>
+fn words_read(alloc: Global, words: &[Word]) -> Result<Option<Asked>, NoMemory>
     ensures { IfOk result (λ found. found ≡ spec.reading words.now) }
 {
     let texts = texts_of(alloc, words)?;
     matched(alloc, texts.as_slice())
+}
+
+/// What the words ask, which are those after the program's name: None exactly where `clap` gives a fault for them as words of
+/// `calq MODEL SQL [--budget N]`. N is a whole number from 1 to 20,000, and has no effect yet.
+pub fn read_words(alloc: Global, words: &[Word]) -> Result<Option<Asked>, NoMemory>
+    ensures reading { IfOk result (λ found. found ≡ spec.reading words.now) }
+    ensures none { IfOk result (λ found. (found ≡ None) ↔ spec.IsFaulty words.now) }
+{
+    words_read(alloc, words)
 }

@@ -1,14 +1,11 @@
 use Rattle.std.proofs.Common.{◌∙◌}
-use Rattle.std.proofs.lemmas.Result.{IfOk-weaker}
 use Rattle.clap.specs.Matches.{found_of}
 use Rattle.command_line.proofs.ReadingLemmas.{read_when_matched, none_when_faulty}
 use Rattle.command_line.proofs.reading.matched.Goals as goal
 
 pub returns-in-Ok : goal.returns-in-Ok
 returns-in-Ok c =
-    IfOk-weaker c.asked_in.result _ _
-    (λ found is. read_when_matched _ (found_of c.in-Ok.matches) _ found c.in_ok-command.ensures c.in-Ok.ensures.kinds (λ simple. (c.in-Ok.ensures.matches simple).0) is)
-    c.asked_in.ensures
+    read_when_matched _ (found_of c.in-Ok.matches) _ c.in_ok-asked-in-Ok.asked c.in_ok-command.ensures c.in-Ok.ensures.kinds (λ simple. (c.in-Ok.ensures.matches simple).0) c.in_ok-asked-in-Ok.ensures
 
 pub returns : goal.returns
 returns c =
