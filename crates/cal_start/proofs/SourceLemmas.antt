@@ -5,7 +5,7 @@ use Rattle.model_json.specs.Schemas.{first_walk}
 use Rattle.model_json.specs.Sources.{source_of, sources_in}
 use Rattle.model_json.specs.declared.draft.Draft.{Draft}
 use Rattle.model_json.specs.declared.draft.Drafts.{Drafts}
-use Rattle.model_json.specs.declared.fault.ModelFault.{ModelFault}
+use Rattle.model_fields.specs.declared.fault.ModelFault.{ModelFault}
 use Rattle.model_json.specs.declared.source.TableSource.{TableSource}
 use Rattle.serde_json.specs.Data.{Data}
 use Rattle.cal_start.specs.Parts.{file_names}

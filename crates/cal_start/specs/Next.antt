@@ -11,8 +11,8 @@ use Rattle.csv_tables.specs.Table.{table_of}
 use Rattle.csv_tables.specs.declared.fault.CsvFault.{CsvFault}
 use Rattle.model_json.specs.ModelOf.{read_model, resolve}
 use Rattle.model_json.specs.Sources.{sources_of}
-use Rattle.model_json.specs.declared.fault.ModelFault.{ModelFault}
-use Rattle.model_json.specs.declared.fault.ModelFault.TheVariants as model
+use Rattle.model_fields.specs.declared.fault.ModelFault.{ModelFault}
+use Rattle.model_fields.specs.declared.fault.ModelFault.TheVariants as model
 use Rattle.model_json.specs.declared.model.Model.{Model}
 use Rattle.model_json.specs.declared.source.TableSource.{TableSource}
 use Rattle.serde_json.specs.Data.{Data}

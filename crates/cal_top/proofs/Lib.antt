@@ -1,2 +1,4 @@
+mod OneEnd
+mod OneReply
 mod ReplyLemmas
 mod RunLemmas

@@ -1,4 +1,5 @@
 pub mod Replies
 pub mod Run
+pub mod RunEnd
 pub mod Statements
-pub mod Told
+pub mod Texts

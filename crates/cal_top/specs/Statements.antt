@@ -6,8 +6,8 @@ use Rattle.cal_schema.specs.declared.schema.Schema.{Schema}
 use Rattle.sql_meaning.specs.Refused.{is_plain, refusal_of}
 use Rattle.sql_parser.specs.Answers.{IsWithinLimits, IsFaultOf}
 use Rattle.sql_parser.specs.Grammar.{Spells}
-use Rattle.sql_parser.specs.declared.fault.ParseFault.{ParseFault}
-use Rattle.sql_parser.specs.declared.fault.ParseFault.TheVariants as parse
+use Rattle.sql_expressions.specs.declared.fault.ParseFault.{ParseFault}
+use Rattle.sql_expressions.specs.declared.fault.ParseFault.TheVariants as parse
 use Rattle.sql_text.specs.Tokens.{HasTokens, StopsAt}
 use Rattle.sql_tree.specs.declared.select.Select.{Select}
 use Rattle.sql_tree.specs.declared.statement.Statement.{Statement}

@@ -1,7 +1,7 @@
 //! The end of a run.
 ghost use Rattle.std.specs.Prelude.{◌≡◌, ◌≤◌};
 ghost use Rattle.cal_top.specs.Run.{Ends};
-ghost use Rattle.cal_top.specs.Told.{status_of, status_of_fault, status_of_reply};
+ghost use Rattle.cal_top.specs.Texts.{status_of, status_of_fault, status_of_reply};
 
 use crate::record::{QueryRecord, TopFault};
 use cal_outside::{Sink, write_all_text};
@@ -52,11 +52,11 @@ pub fn finish<K: Sink>(
     reply: Option<Reply>,
     text: &[u8],
 ) -> QueryRecord
-    ensures later { K.faults out.old ≤ K.faults out.new }
+    ensures later { (K.state out.old).faults ≤ (K.state out.new).faults }
     ensures files { result.files ≡ files }
     ensures db { result.db ≡ db }
     ensures reply { result.reply ≡ reply }
-    ensures ends { Ends fault text.now (K.bytes out.old) (K.bytes out.new) (K.faults out.old) (K.faults out.new) result }
+    ensures ends { Ends fault text.now (K.state out.old) (K.state out.new) result }
 {
     let of = status(&fault, &reply);
     match write_all_text(out, text) {

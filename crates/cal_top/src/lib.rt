@@ -2,16 +2,18 @@
 #![tactic(auto)]
 
 mod finish;
+mod laws;
 mod look;
 mod query;
 mod record;
 mod statement;
 mod tables;
-mod told;
+mod texts;
 
 pub use cal_schema::{Db, Refusal, WrittenName};
 pub use cal_start::{FileRead, TableFault, TableName};
 pub use csv_tables::{CsvCause, CsvFault};
+pub use laws::{one_end_is_right, one_reply_is_right};
 pub use model_json::ModelCause;
 pub use query::run_query;
 pub use record::{QueryRecord, TopFault};

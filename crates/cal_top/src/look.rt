@@ -1,16 +1,18 @@
 //! All of a run but the writing.
-ghost use Rattle.std.specs.Prelude.{◌≡◌, ◌≤◌, IfOk, IfSome, Some, None, map};
+ghost use Rattle.std.specs.Prelude.{◌≡◌, [], IfOk, IfSome, Some, None, map};
 ghost use Rattle.std.specs.Arc.{arc_value};
+ghost use Rattle.cal_outside.specs.Store.{IsLater};
 ghost use Rattle.cal_schema.specs.Fits.{Fits};
 ghost use Rattle.cal_schema.specs.Valid.{IsValidSchema};
+ghost use Rattle.cal_start.specs.Ends.{KeepsEach};
 ghost use Rattle.cal_top.specs.Replies.{IsReplyTo};
 ghost use Rattle.cal_top.specs.Run.{HasCause};
-ghost use Rattle.cal_top.specs.Told.{told_text};
+ghost use Rattle.cal_top.specs.Texts.{text_of};
 
 use crate::record::{TopFault, of_start};
 use crate::statement::reply_to;
 use crate::tables::{all_unshared, shared, shared_again};
-use crate::told::{fault_text, reply_text};
+use crate::texts::{fault_text, reply_text};
 use cal_outside::{Store, Word};
 use cal_schema::{Db, Schema};
 use cal_snapshot::Snapshot;
@@ -43,7 +45,7 @@ fn stopped(alloc: Global, fault: TopFault, files: List<FileRead>) -> Outcome
     ensures files { result.files ≡ files }
     ensures db { result.db ≡ None }
     ensures reply { result.reply ≡ None }
-    ensures text { IfSome result.text (λ text. text.items ≡ told_text result.fault result.reply) }
+    ensures text { IfSome result.text (λ text. text.items ≡ text_of result.fault result.reply) }
 {
     let text = fault_text(alloc, &fault).ok();
     Outcome {
@@ -60,7 +62,7 @@ fn with_reply(alloc: Global, files: List<FileRead>, made: Replied) -> Outcome
     ensures files { result.files ≡ files }
     ensures db { result.db ≡ Some made.db }
     ensures reply { result.reply ≡ Some made.reply }
-    ensures text { IfSome result.text (λ text. text.items ≡ told_text result.fault result.reply) }
+    ensures text { IfSome result.text (λ text. text.items ≡ text_of result.fault result.reply) }
 {
     let Replied { db, reply } = made;
     let text = reply_text(alloc, &reply).ok();
@@ -107,11 +109,11 @@ fn reply_over(alloc: Global, sql: &Word, schema: &Schema, db: Db) -> Result<Repl
 
 /// Reads the words, the model and the files of its tables, and answers the statement over them.
 pub fn look<S: Store>(alloc: Global, words: &[Word], store: &mut S) -> Outcome
-    ensures same { S.files store.new ≡ S.files store.old }
-    ensures later { S.faults store.old ≤ S.faults store.new }
-    ensures cause { HasCause (S.files store.old) (S.faults store.old) (S.faults store.new) (S.broken store.old) (S.broken store.new)
+    ensures later { IsLater (S.state store.old) (S.state store.new) }
+    ensures each { KeepsEach (S.state store.old) (S.state store.new) [] result.files }
+    ensures cause { HasCause (S.state store.old) (S.state store.new)
         words.now result.fault result.files result.db result.reply }
-    ensures text { IfSome result.text (λ text. text.items ≡ told_text result.fault result.reply) }
+    ensures text { IfSome result.text (λ text. text.items ≡ text_of result.fault result.reply) }
 {
     let asked = match read_words(alloc, words) {
         Ok(Some(asked)) => asked,

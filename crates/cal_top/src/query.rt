@@ -1,9 +1,11 @@
 //! The top call.
-ghost use Rattle.std.specs.Prelude.{◌≡◌, ◌⊎◌, ◌≤◌, Option};
+ghost use Rattle.std.specs.Prelude.{◌≡◌, ◌⊎◌, ◌≤◌, [], Option};
 ghost use Rattle.cal_outside.specs.Faults.{Rose};
+ghost use Rattle.cal_outside.specs.Store.{IsLater};
+ghost use Rattle.cal_start.specs.Ends.{KeepsEach};
 ghost use Rattle.cal_top.specs.declared.record.TopFault.{TopFault as Fault};
 ghost use Rattle.cal_top.specs.Run.{HasCause, Ends, IsValid};
-ghost use Rattle.cal_top.specs.Told.{told_text};
+ghost use Rattle.cal_top.specs.Texts.{text_of};
 
 use crate::finish::finish;
 use crate::look::{Outcome, look};
@@ -22,20 +24,20 @@ pub fn run_query<S: Store, K: Sink>(
     store: &mut S,
     out: &mut K,
 ) -> QueryRecord
-    ensures same { S.files store.new ≡ S.files store.old }
-    ensures store_later { S.faults store.old ≤ S.faults store.new }
-    ensures sink_later { K.faults out.old ≤ K.faults out.new }
+    ensures store_later { IsLater (S.state store.old) (S.state store.new) }
+    ensures sink_later { (K.state out.old).faults ≤ (K.state out.new).faults }
+    ensures each { KeepsEach (S.state store.old) (S.state store.new) [] result.files }
 
-    // The fault that the run has to tell, its cause, and what was written of its text.
-    ensures run { (told : Option Fault)
-        × HasCause (S.files store.old) (S.faults store.old) (S.faults store.new) (S.broken store.old) (S.broken store.new)
-        words.now told result.files result.db result.reply
-        × Ends told (told_text told result.reply) (K.bytes out.old) (K.bytes out.new) (K.faults out.old) (K.faults out.new) result }
+    // The fault that the run has before its text is written, its cause, and what was written.
+    ensures run { (fault : Option Fault)
+        × HasCause (S.state store.old) (S.state store.new) words.now
+        fault result.files result.db result.reply
+        × Ends fault (text_of fault result.reply) (K.state out.old) (K.state out.new) result }
 
     // With valid input and no fault counted, it ends with rows, a refusal, or for want of memory.
-    ensures complete { IsValid (S.files store.old) words.now
-        → (Rose (S.faults store.old) (S.faults store.new) → ⊥)
-        → (Rose (K.faults out.old) (K.faults out.new) → ⊥)
+    ensures complete { IsValid (S.state store.old) words.now
+        → (Rose (S.state store.old).faults (S.state store.new).faults → ⊥)
+        → (Rose (K.state out.old).faults (K.state out.new).faults → ⊥)
         → (result.status ≡ 0) ⊎ (result.status ≡ 1) ⊎ (result.status ≡ 7) }
 {
     let Outcome {

@@ -1,6 +1,6 @@
 //! What a run answers.
 ghost use Rattle.std.specs.Prelude.{◌≡◌};
-ghost use Rattle.cal_top.specs.Told.{top_fault};
+ghost use Rattle.cal_top.specs.Texts.{top_fault};
 
 use cal_schema::Db;
 use cal_start::{FileRead, StartFault, TableFault, TableName};
@@ -9,7 +9,7 @@ use model_json::ModelCause;
 use session_lane::Reply;
 use thiserror::Error;
 
-/// What a run told instead of an answer. `path` names the place in the model's document, `limit` is in bytes, `of` is the
+/// Why a run has no answer. `path` names the place in the model's document, `limit` is in bytes, `of` is the
 /// status whose text was being written.
 #[derive(Debug, Drop, Error)]
 pub enum TopFault {

@@ -1,4 +1,6 @@
+mod causes;
 mod devices;
 mod files;
+mod phases;
 mod queries;
 mod run;

@@ -22,16 +22,16 @@ use Rattle.cal_schema.proofs.ColumnLemmas.{past_if, into_if, none_passes, is_sam
 use Rattle.model_json.specs.declared.draft.Contents.{Contents}
 use Rattle.model_json.specs.declared.draft.Draft.{Draft}
 use Rattle.model_json.specs.declared.draft.Drafts.{Drafts}
-use Rattle.model_json.specs.declared.fault.ModelCause.TheVariants.{BadValue, Repeated, TooMany, Compressed, NoSuchName, TextTooLong}
-use Rattle.model_json.specs.declared.fault.ModelFault.{ModelFault}
-use Rattle.model_json.specs.Reading.{◌>>=◌, bad, each, optional, under}
-use Rattle.model_json.specs.Kinds.{of_kind, a_list, an_object, name, text, short, word, count}
-use Rattle.model_json.specs.Rows.{columns, rows, primary_key, keyed, keys_apart}
+use Rattle.model_fields.specs.declared.fault.ModelCause.TheVariants.{BadValue, Repeated, TooMany, Compressed, NoSuchName, TextTooLong}
+use Rattle.model_fields.specs.declared.fault.ModelFault.{ModelFault}
+use Rattle.model_fields.specs.Reading.{◌>>=◌, bad, each, optional, under}
+use Rattle.model_fields.specs.Kinds.{of_kind, a_list, an_object, name, text, short, word, count}
+use Rattle.model_fields.specs.Rows.{columns, rows, key_member, primary_key, keyed, keys_apart}
 use Rattle.model_json.specs.Tables.{row_limit, max_rows, most_rows, file, file_at, csv_operand, columns_at, rows_at, row_key, mem_operand, contents_of, operand, operand_at, is_draft_named, table_name, name_at, factory_at, draft_of, table, table_list, tables}
 use Rattle.model_json.specs.Schemas.{Seen, seen, with_name, schema_name, schema_name_at, name_added, tables_at, schema, nothing_seen, schemas, schema_tables, all_schemas, a_document, has_schema, schema_named, schemas_at, default_schema, default_at, first_walk}
-use Rattle.model_json.proofs.AnswerLemmas.{steps, under-is, field-is, optional-is, each-keeps, each-count, turns-keep}
-use Rattle.model_json.proofs.KeyLemmas.{columns-header, primary_key-is, header-keyed, HasColumns, IsKeyOf}
-use Rattle.model_json.proofs.FilledLemmas.{Fills, AreRowsOf, header-nulls, rows-typed, rows-fill}
+use Rattle.model_fields.proofs.AnswerLemmas.{steps, under-is, field-is, optional-is, each-keeps, each-count, turns-keep}
+use Rattle.model_fields.proofs.KeyLemmas.{columns-header, primary_key-is, header-keyed, HasColumns, IsKeyOf}
+use Rattle.model_fields.proofs.FilledLemmas.{Fills, AreRowsOf, header-nulls, rows-typed, rows-fill}
 
 -- ---- names and limits
 
@@ -106,14 +106,14 @@ pub record IsContents (adapter : AdapterKind) (c : Contents) : Type 0 where
 
 csv-contents : (d : Data) (c : Contents) → csv_operand d ≡ Ok c → IsContents Csv c
 csv-contents d c e =
-    let file = steps (file_at d) (λ name. most_rows d >>= λ most. Ok (record { file = name; max_rows = most; columns = []; primary_key = []; rows = None })) c e in
-    let most = steps (most_rows d) (λ most. Ok (record { file = file.found; max_rows = most; columns = []; primary_key = []; rows = None })) c file.then in
-    let made : Contents = record { file = file.found; max_rows = most.found; columns = []; primary_key = []; rows = None } in
+    let file = steps (file_at d) (λ name. most_rows d >>= λ most. Ok (record { file = name; max_rows = most; columns = []; primary_key = []; key = key_member d; rows = None })) c e in
+    let most = steps (most_rows d) (λ most. Ok (record { file = file.found; max_rows = most; columns = []; primary_key = []; key = key_member d; rows = None })) c file.then in
+    let made : Contents = record { file = file.found; max_rows = most.found; columns = []; primary_key = []; key = key_member d; rows = None } in
     let same : made ≡ c = Prim.cc (most.then) in
     subst (IsContents Csv) same (record { limit = most-limit d most.found most.first; file = file-is d file.found file.first; rows = refl })
 
 abbrev mem_contents : ℕ → List ColumnDef → List (List Value) → List ℕ → Contents
-mem_contents most cs rs ks = record { file = []; max_rows = most; columns = keyed ks cs; primary_key = ks; rows = Some rs }
+mem_contents most cs rs ks = record { file = []; max_rows = most; columns = keyed ks cs; primary_key = ks; key = None; rows = Some rs }
 
 abbrev mem_made : ℕ → List ColumnDef → List (List Value) → List ℕ → Result Contents ModelFault
 mem_made most cs rs ks = Ok (mem_contents most cs rs ks)

@@ -15,18 +15,19 @@ use Rattle.cal_schema.specs.declared.table.TableDef.{TableDef}
 use Rattle.cal_schema.specs.Valid.{IsHeader, IsValidTable, IsValidSchema, HaveTwoNames}
 use Rattle.model_json.specs.declared.draft.Draft.{Draft}
 use Rattle.model_json.specs.declared.draft.Drafts.{Drafts}
-use Rattle.model_json.specs.declared.fault.ModelFault.{ModelFault}
+use Rattle.model_fields.specs.declared.fault.ModelFault.{ModelFault}
 use Rattle.model_json.specs.declared.model.Model.{Model}
-use Rattle.model_json.specs.Reading.{◌>>=◌, under, Gives}
+use Rattle.model_fields.specs.Reading.{◌>>=◌, under, Gives}
 use Rattle.cal_value.specs.declared.memory.NoMemory.{NoMemory}
 use Rattle.model_json.specs.declared.source.TableSource.{TableSource}
+use Rattle.model_fields.specs.Rows.{member_key}
 use Rattle.model_json.specs.Schemas.{first_walk}
 use Rattle.model_json.specs.Sources.{source_of, sources_in, sources_of}
-use Rattle.model_json.specs.ModelOf.{operand_at, file_key, with_columns, file_key_at, table_with, header_at, whole_table, tables_after, second_walk, third_walk, inline_rows, model, resolved, resolve, if_file, file_name, files, FilesAre, IsHeaderOf, AreHeadersOf, file_by, file_of, IsInlineOf, AreInlineFilled, AreShort}
-use Rattle.model_json.proofs.AnswerLemmas.{steps, under-is}
+use Rattle.model_json.specs.ModelOf.{with_columns, file_key_at, table_with, header_at, whole_table, tables_after, second_walk, third_walk, inline_rows, model, resolved, resolve, if_file, file_name, files, FilesAre, IsHeaderOf, AreHeadersOf, file_by, file_of, IsInlineOf, AreInlineFilled, AreShort}
+use Rattle.model_fields.proofs.AnswerLemmas.{steps, under-is}
 use Rattle.model_json.proofs.DraftLemmas.{IsFile, IsLimit, HasRows, IsOneOf, IsDraft, IsShortName, IsWhole, HaveTwo, walk-drafts, walk-is}
-use Rattle.model_json.proofs.FilledLemmas.{fills-table}
-use Rattle.model_json.proofs.KeyLemmas.{HasColumns, IsKeyOf, no_key, primary_key-is, header-keyed}
+use Rattle.model_fields.proofs.FilledLemmas.{fills-table}
+use Rattle.model_fields.proofs.KeyLemmas.{HasColumns, IsKeyOf, member_key-is, header-keyed}
 
 -- ---- one table
 
@@ -39,16 +40,16 @@ pub record Completes (t : Draft) (w : TableDef) : Type 0 where
   pub max_rows : w.max_rows ≡ t.table.max_rows
   pub inline : IsInlineOf w t.rows
 
-inline-file : (t : Draft) (o : Option (List (List Value))) → t.rows ≡ o → IsDraft t → (d : Data) (cs : List ColumnDef) (w : TableDef) → table_with d t cs o ≡ Ok w → Completes t w
-inline-file t None is draft d cs w e =
-    let key = steps (file_key_at d t cs) (λ ks. made ks) w e in
+inline-file : (t : Draft) (o : Option (List (List Value))) → t.rows ≡ o → IsDraft t → (cs : List ColumnDef) (w : TableDef) → table_with t cs o ≡ Ok w → Completes t w
+inline-file t None is draft cs w e =
+    let key = steps (file_key_at t cs) (λ ks. made ks) w e in
     let same : with_columns t.table cs key.found ≡ w = Prim.cc (key.then) in
     let csv : t.table.adapter ≡ Csv = subst (IsOneOf t.table.adapter t.table.columns t.table.primary_key t.table.max_rows) is draft.rows in
     subst (Completes t) same (record { schema = refl; name = refl; adapter = refl; file = refl; max_rows = refl; inline = subst (IsInlineOf (with_columns t.table cs key.found)) (sym is) csv })
   where
     made : List ℕ → Result TableDef ModelFault
     made ks = Ok (with_columns t.table cs ks)
-inline-file t (Some rs) is draft d cs w e =
+inline-file t (Some rs) is draft cs w e =
     let same : t.table ≡ w = Prim.cc in
     let rows : HasRows t.table.adapter t.table.columns t.table.primary_key t.table.max_rows rs = subst (IsOneOf t.table.adapter t.table.columns t.table.primary_key t.table.max_rows) is draft.rows in
     subst (Completes t) same (record { schema = refl; name = refl; adapter = refl; file = refl; max_rows = refl; inline = subst (IsInlineOf t.table) (sym is) (rows.in_model, fills-table t.table rs rows.filled) })
@@ -72,34 +73,30 @@ valid-table w schema name file limit has = record {
   key_apart = has.key_apart;
 }
 
-file_key-is : (cs : List ColumnDef) (o : Option Data) (ks : List ℕ) → file_key cs o ≡ Ok ks → IsKeyOf cs ks
-file_key-is cs None ks e = let same : [] ≡ ks = Prim.cc in subst (IsKeyOf cs) same (no_key cs)
-file_key-is cs (Some operand) ks e = primary_key-is cs operand ks e
-
-key_at-is : (d : Data) (t : Draft) (cs : List ColumnDef) (ks : List ℕ) → file_key_at d t cs ≡ Ok ks → IsKeyOf cs ks
-key_at-is d t cs ks e =
-    let key = file_key cs (operand_at d t.schema_at t.table_at) in
+key_at-is : (t : Draft) (cs : List ColumnDef) (ks : List ℕ) → file_key_at t cs ≡ Ok ks → IsKeyOf cs ks
+key_at-is t cs ks e =
+    let key = member_key cs t.key in
     let operand = under (codes "operand") key in
     let table = under (decimal t.table_at) operand in
     let tables = under (codes "tables") table in
     let schema = under (decimal t.schema_at) tables in
-    file_key-is cs (operand_at d t.schema_at t.table_at) ks
+    member_key-is cs t.key ks
     (under-is (codes "operand") key ks (under-is (decimal t.table_at) operand ks (under-is (codes "tables") table ks (under-is (decimal t.schema_at) tables ks (under-is (codes "schemas") schema ks e)))))
 
 -- the header of the table, where it is read from a file
 pub record HasHeader (o : Option (List (List Value))) (cs : List ColumnDef) : Type 0 where
   pub header : o ≡ None → IsHeader cs
 
-table-valid : (t : Draft) (o : Option (List (List Value))) → t.rows ≡ o → IsWhole t → (d : Data) (cs : List ColumnDef) → HasHeader o cs → (w : TableDef) → table_with d t cs o ≡ Ok w → IsValidTable w
-table-valid t None is whole d cs has w e =
-    let key = steps (file_key_at d t cs) (λ ks. made ks) w e in
+table-valid : (t : Draft) (o : Option (List (List Value))) → t.rows ≡ o → IsWhole t → (cs : List ColumnDef) → HasHeader o cs → (w : TableDef) → table_with t cs o ≡ Ok w → IsValidTable w
+table-valid t None is whole cs has w e =
+    let key = steps (file_key_at t cs) (λ ks. made ks) w e in
     let same : with_columns t.table cs key.found ≡ w = Prim.cc (key.then) in
     subst IsValidTable same
-    (valid-table (with_columns t.table cs key.found) whole.1 whole.0.name_short whole.0.file whole.0.limit (header-keyed cs key.found (has.header refl) (key_at-is d t cs key.found key.first)))
+    (valid-table (with_columns t.table cs key.found) whole.1 whole.0.name_short whole.0.file whole.0.limit (header-keyed cs key.found (has.header refl) (key_at-is t cs key.found key.first)))
   where
     made : List ℕ → Result TableDef ModelFault
     made ks = Ok (with_columns t.table cs ks)
-table-valid t (Some rs) is whole d cs has w e =
+table-valid t (Some rs) is whole cs has w e =
     let same : t.table ≡ w = Prim.cc in
     let rows : HasRows t.table.adapter t.table.columns t.table.primary_key t.table.max_rows rs = subst (IsOneOf t.table.adapter t.table.columns t.table.primary_key t.table.max_rows) is whole.0.rows in
     subst IsValidTable same (valid-table t.table whole.1 whole.0.name_short whole.0.file whole.0.limit rows.valid)
@@ -112,15 +109,15 @@ pub record Completed (done : List TableDef) (ts : List Draft) (all : List TableD
   pub all_is : all ≡ done ++ rest
   pub each : AllZip Completes ts rest
 
-walked : (d : Data) (headers : List (Option (List ColumnDef))) (done : List TableDef) (ts : List Draft) (all : List TableDef) → All IsWhole ts → tables_after d headers done ts ≡ Ok all → Completed done ts all
-walked d headers done [] all whole e = let same : done ≡ all = Prim.cc in record { rest = []; all_is = sym same ∙ sym (append-nil done); each = tt }
-walked d headers done (t ∷ ts) all whole e =
-    let s = steps (whole_table d headers (length done) t) (λ w. tables_after d headers (done ++ w ∷ []) ts) all e in
-    let later = walked d headers (done ++ s.found ∷ []) ts all (All-tail IsWhole t ts whole) s.then in
+walked : (headers : List (Option (List ColumnDef))) (done : List TableDef) (ts : List Draft) (all : List TableDef) → All IsWhole ts → tables_after headers done ts ≡ Ok all → Completed done ts all
+walked headers done [] all whole e = let same : done ≡ all = Prim.cc in record { rest = []; all_is = sym same ∙ sym (append-nil done); each = tt }
+walked headers done (t ∷ ts) all whole e =
+    let s = steps (whole_table headers (length done) t) (λ w. tables_after headers (done ++ w ∷ []) ts) all e in
+    let later = walked headers (done ++ s.found ∷ []) ts all (All-tail IsWhole t ts whole) s.then in
     record {
       rest = s.found ∷ later.rest;
       all_is = later.all_is ∙ append_assoc done (s.found ∷ []) later.rest;
-      each = (inline-file t t.rows refl (All-head IsWhole t ts whole).0 d (header_at headers (length done)) s.found s.first, later.each);
+      each = (inline-file t t.rows refl (All-head IsWhole t ts whole).0 (header_at headers (length done)) s.found s.first, later.each);
     }
 
 placed : {X : Type 0} (front : List X) (x : X) (xs : List X) → slice_get (front ++ x ∷ xs) (length front) ≡ Some x
@@ -132,17 +129,17 @@ named-header t None None is = absurd is
 named-header t None (Some cs) is = record { header = λ e. is }
 named-header t (Some rs) h is = record { header = λ e. absurd (Prim.cc) }
 
-walk-valid : (d : Data) (headers front hs : List (Option (List ColumnDef))) (done : List TableDef) (ts : List Draft) (all : List TableDef) → headers ≡ front ++ hs → length front ≡ length done
-    → All IsWhole ts → AreHeadersOf (map file_name ts) hs → All IsValidTable done → tables_after d headers done ts ≡ Ok all → All IsValidTable all
-walk-valid d headers front hs done [] all is l whole named valid e = let same : done ≡ all = Prim.cc in subst (All IsValidTable) same valid
-walk-valid d headers front [] done (t ∷ ts) all is l whole named valid e = absurd named
-walk-valid d headers front (h ∷ hs) done (t ∷ ts) all is l whole named valid e =
-    let s = steps (whole_table d headers (length done) t) (λ w. tables_after d headers (done ++ w ∷ []) ts) all e in
+walk-valid : (headers front hs : List (Option (List ColumnDef))) (done : List TableDef) (ts : List Draft) (all : List TableDef) → headers ≡ front ++ hs → length front ≡ length done
+    → All IsWhole ts → AreHeadersOf (map file_name ts) hs → All IsValidTable done → tables_after headers done ts ≡ Ok all → All IsValidTable all
+walk-valid headers front hs done [] all is l whole named valid e = let same : done ≡ all = Prim.cc in subst (All IsValidTable) same valid
+walk-valid headers front [] done (t ∷ ts) all is l whole named valid e = absurd named
+walk-valid headers front (h ∷ hs) done (t ∷ ts) all is l whole named valid e =
+    let s = steps (whole_table headers (length done) t) (λ w. tables_after headers (done ++ w ∷ []) ts) all e in
     let there : slice_get headers (length done) ≡ Some h = ap (λ (u : List (Option (List ColumnDef))). slice_get u (length done)) is ∙ ap (slice_get (front ++ h ∷ hs)) (sym l) ∙ placed front h hs in
     let columns : header_at headers (length done) ≡ unwrap_or h [] = ap (λ (o : Option (Option (List ColumnDef))). unwrap_or (option_and_then (λ header. header) o) []) there in
     let has : HasHeader t.rows (header_at headers (length done)) = subst (HasHeader t.rows) (sym columns) (named-header t t.rows h named.0) in
-    let one = table-valid t t.rows refl (All-head IsWhole t ts whole) d (header_at headers (length done)) has s.found s.first in
-    walk-valid d headers (front ++ h ∷ []) hs (done ++ s.found ∷ []) ts all (is ∙ sym (append_assoc front (h ∷ []) hs)) (omega (arith, length_push front h, length_push done s.found, l))
+    let one = table-valid t t.rows refl (All-head IsWhole t ts whole) (header_at headers (length done)) has s.found s.first in
+    walk-valid headers (front ++ h ∷ []) hs (done ++ s.found ∷ []) ts all (is ∙ sym (append_assoc front (h ∷ []) hs)) (omega (arith, length_push front h, length_push done s.found, l))
     (All-tail IsWhole t ts whole) named.1 (All-push IsValidTable done s.found valid one) s.then
 
 zip-all : (t : Draft) (w : TableDef) → Completes t w → (ts : List Draft) (ws : List TableDef) → AllZip Completes ts ws → All (HaveTwo t) ts → All (HaveTwoNames w) ws
@@ -194,14 +191,14 @@ pub record Resolved (d : Data) (headers : List (Option (List ColumnDef))) (m : M
   pub drafts : Drafts
   pub first : first_walk d ≡ Ok drafts
   pub default : drafts.default_schema ≡ m.schema.default_schema
-  pub tables : tables_after d headers [] drafts.tables ≡ Ok m.schema.tables
+  pub tables : tables_after headers [] drafts.tables ≡ Ok m.schema.tables
   pub inline : m.inline ≡ map inline_rows drafts.tables
 
 resolved-is : (d : Data) (headers : List (Option (List ColumnDef))) (m : Model) → resolve d headers ≡ Ok m → Resolved d headers m
 resolved-is d headers m e =
     let walk = steps (first_walk d) (resolved d headers) m e in
     let drafts = walk.found in
-    let all = steps (second_walk d headers drafts.tables) (λ tables. third_walk d >>= λ u. made drafts tables) m walk.then in
+    let all = steps (second_walk headers drafts.tables) (λ tables. third_walk d >>= λ u. made drafts tables) m walk.then in
     let last = steps (third_walk d) (λ u. made drafts all.found) m all.then in
     let same : model drafts.default_schema all.found drafts.tables ≡ m = Prim.cc (last.then) in
     record {
@@ -220,7 +217,7 @@ resolved-is d headers m e =
 
 completed : (d : Data) (headers : List (Option (List ColumnDef))) (m : Model) (r : Resolved d headers m) → AllZip Completes r.drafts.tables m.schema.tables
 completed d headers m r =
-    let w = walked d headers [] r.drafts.tables m.schema.tables (walk-drafts d r.drafts r.first).drafts r.tables in
+    let w = walked headers [] r.drafts.tables m.schema.tables (walk-drafts d r.drafts r.first).drafts r.tables in
     subst (AllZip Completes r.drafts.tables) (sym w.all_is) w.each
 
 names-are : (names : List (Option (List ℕ))) (w : Result Drafts ModelFault) (drafts : Drafts) → w ≡ Ok drafts → FilesAre names w → names ≡ map file_name drafts.tables
@@ -247,7 +244,7 @@ schema-valid d headers m e names h given =
     record {
       default_short = subst IsShortName r.default walk.default;
       few_tables = omega (arith, zip-length r.drafts.tables m.schema.tables each, drafts.few);
-      tables = walk-valid d headers [] headers [] r.drafts.tables m.schema.tables refl refl drafts.drafts named (All-nil IsValidTable) r.tables;
+      tables = walk-valid headers [] headers [] r.drafts.tables m.schema.tables refl refl drafts.drafts named (All-nil IsValidTable) r.tables;
       apart = zip-apart r.drafts.tables m.schema.tables each drafts.apart;
     }
 

@@ -11,10 +11,10 @@ use Rattle.serde_json.specs.declared.value.Value.{Value}
 use Rattle.cal_schema.specs.declared.column.ColumnDef.{ColumnDef}
 use Rattle.cal_schema.specs.declared.table.TableDef.{TableDef}
 use Rattle.model_json.specs.declared.draft.Draft.{Draft}
-use Rattle.model_json.specs.declared.fault.ModelFault.{ModelFault}
-use Rattle.model_json.specs.declared.fault.ModelFault.TheVariants.{NotJson}
-use Rattle.model_json.specs.declared.fault.ModelCause.TheVariants.{NotYet}
-use Rattle.model_json.specs.Reading.{◌>>=◌, bad}
+use Rattle.model_fields.specs.declared.fault.ModelFault.{ModelFault}
+use Rattle.model_fields.specs.declared.fault.ModelFault.TheVariants.{NotJson}
+use Rattle.model_fields.specs.declared.fault.ModelCause.TheVariants.{NotYet}
+use Rattle.model_fields.specs.Reading.{◌>>=◌, bad}
 use Rattle.model_json.specs.Schemas.{first_walk}
 use Rattle.model_json.specs.ModelOf.{document, json, second_walk, tables_after, whole_table, no_lattices, checked, resolve, resolved, read_model, model_of}
 
@@ -63,28 +63,28 @@ model_when_fault bytes headers fault is = after_fault (document bytes) headers f
 
 -- ---- the second walk
 
-pub record TablesRead (d : Data) (headers : List (Option (List ColumnDef))) (ts : List Draft) (done : List TableDef) (i : ℕ) : Type 0 where
-  pub so_far : second_walk d headers ts ≡ tables_after d headers done (drop i ts)
+pub record TablesRead (headers : List (Option (List ColumnDef))) (ts : List Draft) (done : List TableDef) (i : ℕ) : Type 0 where
+  pub so_far : second_walk headers ts ≡ tables_after headers done (drop i ts)
 
-pub tables_none : (d : Data) (headers : List (Option (List ColumnDef))) (ts : List Draft) → TablesRead d headers ts [] 0
-tables_none d headers ts = record { so_far = refl }
+pub tables_none : (headers : List (Option (List ColumnDef))) (ts : List Draft) → TablesRead headers ts [] 0
+tables_none headers ts = record { so_far = refl }
 
-tables_at : (d : Data) (headers : List (Option (List ColumnDef))) (ts : List Draft) (done : List TableDef) (i : ℕ) (t : Draft) → i < length ts → t ≡ get_or ts i t
-    → tables_after d headers done (drop i ts) ≡ (whole_table d headers (length done) t >>= λ whole. tables_after d headers (done ++ whole ∷ []) (drop (i + 1) ts))
-tables_at d headers ts done i t h is =
-    at_drop_more (λ us. tables_after d headers done us) ts i t h
-    ∙ ap (λ u. whole_table d headers (length done) u >>= λ whole. tables_after d headers (done ++ whole ∷ []) (drop (i + 1) ts)) (sym is)
+tables_at : (headers : List (Option (List ColumnDef))) (ts : List Draft) (done : List TableDef) (i : ℕ) (t : Draft) → i < length ts → t ≡ get_or ts i t
+    → tables_after headers done (drop i ts) ≡ (whole_table headers (length done) t >>= λ whole. tables_after headers (done ++ whole ∷ []) (drop (i + 1) ts))
+tables_at headers ts done i t h is =
+    at_drop_more (λ us. tables_after headers done us) ts i t h
+    ∙ ap (λ u. whole_table headers (length done) u >>= λ whole. tables_after headers (done ++ whole ∷ []) (drop (i + 1) ts)) (sym is)
 
-pub tables_one : (d : Data) (headers : List (Option (List ColumnDef))) (ts : List Draft) (done : List TableDef) (i : ℕ) (t : Draft) (whole : TableDef)
-    → i < length ts → t ≡ get_or ts i t → whole_table d headers (length done) t ≡ Ok whole → TablesRead d headers ts done i → TablesRead d headers ts (done ++ whole ∷ []) (i + 1)
-tables_one d headers ts done i t whole h is e r = record {
-  so_far = r.so_far ∙ tables_at d headers ts done i t h is ∙ ap (λ o. o >>= λ whole. tables_after d headers (done ++ whole ∷ []) (drop (i + 1) ts)) e;
+pub tables_one : (headers : List (Option (List ColumnDef))) (ts : List Draft) (done : List TableDef) (i : ℕ) (t : Draft) (whole : TableDef)
+    → i < length ts → t ≡ get_or ts i t → whole_table headers (length done) t ≡ Ok whole → TablesRead headers ts done i → TablesRead headers ts (done ++ whole ∷ []) (i + 1)
+tables_one headers ts done i t whole h is e r = record {
+  so_far = r.so_far ∙ tables_at headers ts done i t h is ∙ ap (λ o. o >>= λ whole. tables_after headers (done ++ whole ∷ []) (drop (i + 1) ts)) e;
 }
 
-pub tables_stopped : (d : Data) (headers : List (Option (List ColumnDef))) (ts : List Draft) (done : List TableDef) (i : ℕ) (t : Draft) (fault : ModelFault)
-    → i < length ts → t ≡ get_or ts i t → whole_table d headers (length done) t ≡ Err fault → TablesRead d headers ts done i → second_walk d headers ts ≡ Err fault
-tables_stopped d headers ts done i t fault h is e r =
-    r.so_far ∙ tables_at d headers ts done i t h is ∙ ap (λ o. o >>= λ whole. tables_after d headers (done ++ whole ∷ []) (drop (i + 1) ts)) e
+pub tables_stopped : (headers : List (Option (List ColumnDef))) (ts : List Draft) (done : List TableDef) (i : ℕ) (t : Draft) (fault : ModelFault)
+    → i < length ts → t ≡ get_or ts i t → whole_table headers (length done) t ≡ Err fault → TablesRead headers ts done i → second_walk headers ts ≡ Err fault
+tables_stopped headers ts done i t fault h is e r =
+    r.so_far ∙ tables_at headers ts done i t h is ∙ ap (λ o. o >>= λ whole. tables_after headers (done ++ whole ∷ []) (drop (i + 1) ts)) e
 
-pub tables_all : (d : Data) (headers : List (Option (List ColumnDef))) (ts : List Draft) (done : List TableDef) → TablesRead d headers ts done (length ts) → second_walk d headers ts ≡ Ok done
-tables_all d headers ts done r = r.so_far ∙ at_drop_all (λ us. tables_after d headers done us) ts (length ts) (omega arith)
+pub tables_all : (headers : List (Option (List ColumnDef))) (ts : List Draft) (done : List TableDef) → TablesRead headers ts done (length ts) → second_walk headers ts ≡ Ok done
+tables_all headers ts done r = r.so_far ∙ at_drop_all (λ us. tables_after headers done us) ts (length ts) (omega arith)

@@ -4,7 +4,6 @@ use Rattle.std.specs.Fmt.{decimal}
 use Rattle.std.specs.List.{AllZip}
 use Rattle.std.specs.Str.{is_utf8}
 use Rattle.serde_json.specs.Data.{Data, Items, no_items, item}
-use Rattle.serde_json.specs.Find.{get, at}
 use Rattle.serde_json.specs.Read.{read}
 use Rattle.serde_json.specs.View.{view}
 use Rattle.cal_value.specs.declared.limits.TheConstants.{COLUMN_LIMIT, TABLE_LIMIT}
@@ -19,12 +18,12 @@ use Rattle.model_json.specs.declared.draft.Draft.{Draft}
 use Rattle.model_json.specs.declared.draft.Drafts.{Drafts}
 use Rattle.model_json.specs.declared.model.Model.{Model}
 use Rattle.model_json.specs.declared.model.ModelDoc.{ModelDoc}
-use Rattle.model_json.specs.declared.fault.ModelCause.TheVariants.{NotYet}
-use Rattle.model_json.specs.declared.fault.ModelFault.{ModelFault}
-use Rattle.model_json.specs.declared.fault.ModelFault.TheVariants.{NotJson}
-use Rattle.model_json.specs.Reading.{◌>>=◌, bad, in_turn, field, optional, under}
-use Rattle.model_json.specs.Kinds.{a_list}
-use Rattle.model_json.specs.Rows.{primary_key, keyed}
+use Rattle.model_fields.specs.declared.fault.ModelCause.TheVariants.{NotYet}
+use Rattle.model_fields.specs.declared.fault.ModelFault.{ModelFault}
+use Rattle.model_fields.specs.declared.fault.ModelFault.TheVariants.{NotJson}
+use Rattle.model_fields.specs.Reading.{◌>>=◌, bad, in_turn, field, optional, under}
+use Rattle.model_fields.specs.Kinds.{a_list}
+use Rattle.model_fields.specs.Rows.{member_key, keyed}
 use Rattle.model_json.specs.Schemas.{first_walk}
 
 -- ---- the document
@@ -39,50 +38,37 @@ document bytes = json (if is_utf8 bytes then read bytes else None)
 
 -- ---- the second walk: the primary keys of tables that are read from files
 
-abbrev pub member : List ℕ → Option Data → Option Data
-member key o = option_and_then (get key) o
-
-abbrev pub nth : ℕ → Option Data → Option Data
-nth n o = option_and_then (at n) o
-
--- the operand of a table
-abbrev pub operand_at : Data → ℕ → ℕ → Option Data
-operand_at d schema_at table_at = member (codes "operand") (nth table_at (member (codes "tables") (nth schema_at (member (codes "schemas") (Some d)))))
-
 abbrev pub under_operand : {A : Type 0} → ℕ → ℕ → Result A ModelFault → Result A ModelFault
 under_operand schema_at table_at r = under (codes "schemas") (under (decimal schema_at) (under (codes "tables") (under (decimal table_at) (under (codes "operand") r))))
-
-abbrev pub file_key : List ColumnDef → Option Data → Result (List ℕ) ModelFault
-file_key cs None = Ok []
-file_key cs (Some operand) = primary_key cs operand
 
 abbrev pub with_columns : TableDef → List ColumnDef → List ℕ → TableDef
 with_columns t cs ks = record { schema = t.schema; name = t.name; columns = keyed ks cs; adapter = t.adapter; file = t.file; max_rows = t.max_rows; primary_key = ks }
 
-abbrev pub file_key_at : Data → Draft → List ColumnDef → Result (List ℕ) ModelFault
-file_key_at d t cs = under_operand t.schema_at t.table_at (file_key cs (operand_at d t.schema_at t.table_at))
+-- the key of the table's own operand
+abbrev pub file_key_at : Draft → List ColumnDef → Result (List ℕ) ModelFault
+file_key_at t cs = under_operand t.schema_at t.table_at (member_key cs t.key)
 
 -- the table with the columns of its file's header
-abbrev pub file_table : Data → Draft → List ColumnDef → Result TableDef ModelFault
-file_table d t cs = file_key_at d t cs >>= λ ks. Ok (with_columns t.table cs ks)
+abbrev pub file_table : Draft → List ColumnDef → Result TableDef ModelFault
+file_table t cs = file_key_at t cs >>= λ ks. Ok (with_columns t.table cs ks)
 
-abbrev pub table_with : Data → Draft → List ColumnDef → Option (List (List Value)) → Result TableDef ModelFault
-table_with d t cs None = file_table d t cs
-table_with d t cs (Some rs) = Ok t.table
+abbrev pub table_with : Draft → List ColumnDef → Option (List (List Value)) → Result TableDef ModelFault
+table_with t cs None = file_table t cs
+table_with t cs (Some rs) = Ok t.table
 
 abbrev pub header_at : List (Option (List ColumnDef)) → ℕ → List ColumnDef
 header_at headers n = unwrap_or (option_and_then (λ header. header) (slice_get headers n)) []
 
 -- the table of this number, whole
-abbrev pub whole_table : Data → List (Option (List ColumnDef)) → ℕ → Draft → Result TableDef ModelFault
-whole_table d headers n t = table_with d t (header_at headers n) t.rows
+abbrev pub whole_table : List (Option (List ColumnDef)) → ℕ → Draft → Result TableDef ModelFault
+whole_table headers n t = table_with t (header_at headers n) t.rows
 
-abbrev pub tables_after : Data → List (Option (List ColumnDef)) → List TableDef → List Draft → Result (List TableDef) ModelFault
-tables_after d headers done [] = Ok done
-tables_after d headers done (t ∷ ts) = whole_table d headers (length done) t >>= λ whole. tables_after d headers (done ++ whole ∷ []) ts
+abbrev pub tables_after : List (Option (List ColumnDef)) → List TableDef → List Draft → Result (List TableDef) ModelFault
+tables_after headers done [] = Ok done
+tables_after headers done (t ∷ ts) = whole_table headers (length done) t >>= λ whole. tables_after headers (done ++ whole ∷ []) ts
 
-abbrev pub second_walk : Data → List (Option (List ColumnDef)) → List Draft → Result (List TableDef) ModelFault
-second_walk d headers ts = tables_after d headers [] ts
+abbrev pub second_walk : List (Option (List ColumnDef)) → List Draft → Result (List TableDef) ModelFault
+second_walk headers ts = tables_after headers [] ts
 
 -- ---- the third walk: lattices, of which there are none yet
 
@@ -115,7 +101,7 @@ model default tables drafts = record { schema = record { default_schema = defaul
 
 abbrev pub resolved : Data → List (Option (List ColumnDef)) → Drafts → Result Model ModelFault
 resolved d headers drafts = do
-  tables ← second_walk d headers drafts.tables
+  tables ← second_walk headers drafts.tables
   _ ← third_walk d
   Ok (model drafts.default_schema tables drafts.tables)
 

@@ -8,11 +8,11 @@ use Rattle.cal_value.specs.declared.limits.TheConstants.{NAME_LIMIT}
 use Rattle.cal_schema.specs.Lookup.{is_same_name}
 use Rattle.model_json.specs.declared.draft.Draft.{Draft}
 use Rattle.model_json.specs.declared.draft.Drafts.{Drafts}
-use Rattle.model_json.specs.declared.fault.ModelCause.TheVariants.{WrongKind, Repeated, NoSuchName}
-use Rattle.model_json.specs.declared.fault.ModelFault.{ModelFault}
-use Rattle.model_json.specs.declared.fault.ModelFault.TheVariants.{BadModel}
-use Rattle.model_json.specs.Reading.{◌>>=◌, bad, in_turn, field, optional, under}
-use Rattle.model_json.specs.Kinds.{a_list, an_object, text, name, word}
+use Rattle.model_fields.specs.declared.fault.ModelCause.TheVariants.{WrongKind, Repeated, NoSuchName}
+use Rattle.model_fields.specs.declared.fault.ModelFault.{ModelFault}
+use Rattle.model_fields.specs.declared.fault.ModelFault.TheVariants.{BadModel}
+use Rattle.model_fields.specs.Reading.{◌>>=◌, bad, in_turn, field, optional, under}
+use Rattle.model_fields.specs.Kinds.{a_list, an_object, text, name, word}
 use Rattle.model_json.specs.Tables.{tables}
 
 -- ---- the default schema

@@ -3,7 +3,7 @@ use Rattle.std.specs.Prelude.{List, [], map, Result, Ok, Err}
 use Rattle.serde_json.specs.Data.{Data}
 use Rattle.model_json.specs.declared.draft.Draft.{Draft}
 use Rattle.model_json.specs.declared.draft.Drafts.{Drafts}
-use Rattle.model_json.specs.declared.fault.ModelFault.{ModelFault}
+use Rattle.model_fields.specs.declared.fault.ModelFault.{ModelFault}
 use Rattle.model_json.specs.declared.source.TableSource.{TableSource}
 use Rattle.model_json.specs.ModelOf.{file_name}
 use Rattle.model_json.specs.Schemas.{first_walk}

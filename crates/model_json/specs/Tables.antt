@@ -13,11 +13,11 @@ use Rattle.cal_schema.specs.File.{is_compressed}
 use Rattle.cal_schema.specs.Lookup.{is_same_name}
 use Rattle.model_json.specs.declared.draft.Contents.{Contents}
 use Rattle.model_json.specs.declared.draft.Draft.{Draft}
-use Rattle.model_json.specs.declared.fault.ModelCause.TheVariants.{BadValue, Repeated, TooMany, Compressed}
-use Rattle.model_json.specs.declared.fault.ModelFault.{ModelFault}
-use Rattle.model_json.specs.Reading.{◌>>=◌, bad, each, field, optional, under}
-use Rattle.model_json.specs.Kinds.{of_kind, a_list, an_object, text, name, word, count}
-use Rattle.model_json.specs.Rows.{columns, rows, primary_key, keyed, keys_apart}
+use Rattle.model_fields.specs.declared.fault.ModelCause.TheVariants.{BadValue, Repeated, TooMany, Compressed}
+use Rattle.model_fields.specs.declared.fault.ModelFault.{ModelFault}
+use Rattle.model_fields.specs.Reading.{◌>>=◌, bad, each, field, optional, under}
+use Rattle.model_fields.specs.Kinds.{of_kind, a_list, an_object, text, name, word, count}
+use Rattle.model_fields.specs.Rows.{columns, rows, key_member, primary_key, keyed, keys_apart}
 
 -- ---- operands
 
@@ -39,12 +39,12 @@ max_rows d = of_kind (as_number d) >>= λ n. row_limit (as_u64 n)
 abbrev pub most_rows : Data → Result ℕ ModelFault
 most_rows operand = optional (codes "maxRows") ROW_LIMIT max_rows operand
 
--- the operand of a table that is read from a file; its primary key is read with the file's header
+-- the operand of a table that is read from a file; the member of its primary key waits for the file's header
 abbrev pub csv_operand : Data → Result Contents ModelFault
 csv_operand operand = do
   name ← file_at operand
   most ← most_rows operand
-  Ok (record { file = name; max_rows = most; columns = []; primary_key = []; rows = None })
+  Ok (record { file = name; max_rows = most; columns = []; primary_key = []; key = key_member operand; rows = None })
 
 abbrev pub columns_at : Data → Result (List ColumnDef) ModelFault
 columns_at operand = field (codes "columns") columns operand
@@ -66,7 +66,7 @@ mem_operand operand = do
   cs ← columns_at operand
   rs ← rows_at cs most operand
   ks ← row_key cs rs operand
-  Ok (record { file = []; max_rows = most; columns = keyed ks cs; primary_key = ks; rows = Some rs })
+  Ok (record { file = []; max_rows = most; columns = keyed ks cs; primary_key = ks; key = None; rows = Some rs })
 
 abbrev pub contents_of : AdapterKind → Data → Result Contents ModelFault
 contents_of Csv operand = csv_operand operand
@@ -107,6 +107,7 @@ draft_of schema_at schema table_at name adapter contents = record {
   schema_at = schema_at;
   table_at = table_at;
   table = record { schema = schema; name = name; columns = contents.columns; adapter = adapter; file = contents.file; max_rows = contents.max_rows; primary_key = contents.primary_key };
+  key = contents.key;
   rows = contents.rows;
 }
 

@@ -1,20 +1,18 @@
 //! A model: its document, its files, and what it means with their headers.
-ghost use Rattle.std.specs.Prelude.{◌≡◌, ◌≢◌, ◌≤◌, ℕ, List as ListOf, Option, Ok, Err, IfOk, IfErr, length, map, option_map};
+ghost use Rattle.std.specs.Prelude.{◌≡◌, ◌≢◌, ◌≤◌, ℕ, List as ListOf, Option, Ok, Err, IfOk, IfErr, length, map};
 ghost use Rattle.serde_json.specs.View.{view, items_view};
 ghost use Rattle.cal_schema.specs.declared.column.ColumnDef.{ColumnDef};
 ghost use Rattle.cal_schema.specs.Valid.{IsValidSchema};
-ghost use Rattle.model_json.specs.declared.fault.ModelFault.TheVariants as faults;
-ghost use Rattle.model_json.specs.Reading.{Gives, item_in_turn, in_turn};
+ghost use Rattle.model_fields.specs.declared.fault.ModelFault.TheVariants as faults;
+ghost use Rattle.model_fields.specs.Reading.{Gives, item_in_turn, in_turn};
 ghost use Rattle.model_json.specs.ModelOf as spec;
 ghost use Rattle.model_json.specs.Schemas as walk;
 
-use crate::columns::{keyed, primary_key};
 use crate::draft::{Draft, Drafts};
-use crate::fault::{ModelCause, ModelFault, at_item, at_member, bad};
-use crate::member::{list_of, required};
 use crate::schemas::first_walk;
 use cal_schema::{ColumnDef, Schema, TableDef};
 use cal_value::{COLUMN_LIMIT, Duplicate, List, NoMemory, Row, SqlText, TABLE_LIMIT};
+use model_fields::{ModelCause, ModelFault, at_item, at_member, bad, keyed, list_of, required};
 use serde_json::{Category, Value as Json};
 use std::alloc::Global;
 
@@ -70,48 +68,6 @@ pub fn read_model(alloc: Global, bytes: &[u8]) -> Result<ModelDoc, ModelFault>
 
 // ---- the second walk
 
-fn member<'a>(object: Option<&'a Json>, key: &str) -> Option<&'a Json>
-    ensures { option_map (λ value. view value.now) result ≡ spec.member key.now (option_map (λ value. view value.now) object.entry) }
-{
-    match object {
-        Some(object) => object.get(key),
-        None => None,
-    }
-}
-
-fn nth(list: Option<&Json>, number: usize) -> Option<&Json>
-    ensures { option_map (λ value. view value.now) result ≡ spec.nth number (option_map (λ value. view value.now) list.entry) }
-{
-    match list {
-        Some(list) => list.get(number),
-        None => None,
-    }
-}
-
-fn operand_at(document: &Json, schema_at: usize, table_at: usize) -> Option<&Json>
-    ensures { option_map (λ value. view value.now) result ≡ spec.operand_at (view document.now) schema_at table_at }
-{
-    let schemas = member(Some(document), "schemas");
-    let schema = nth(schemas, schema_at);
-    let tables = member(schema, "tables");
-    let table = nth(tables, table_at);
-    member(table, "operand")
-}
-
-fn file_key(
-    alloc: Global,
-    columns: &List<ColumnDef>,
-    operand: Option<&Json>,
-) -> Result<List<u32>, ModelFault>
-    requires { length columns.now ≤ COLUMN_LIMIT }
-    ensures { Gives (λ ks. ks) result (spec.file_key columns.now (option_map (λ value. view value.now) operand.entry)) }
-{
-    match operand {
-        Some(operand) => primary_key(alloc, columns, operand),
-        None => Ok(List::new(alloc)),
-    }
-}
-
 fn at_operand(
     alloc: Global,
     draft: &Draft,
@@ -128,15 +84,13 @@ fn at_operand(
 
 fn file_key_at(
     alloc: Global,
-    document: &Json,
     draft: &Draft,
     columns: &List<ColumnDef>,
 ) -> Result<List<u32>, ModelFault>
     requires { length columns.now ≤ COLUMN_LIMIT }
-    ensures { Gives (λ ks. ks) result (spec.file_key_at (view document.now) draft.now columns.now) }
+    ensures { Gives (λ ks. ks) result (spec.file_key_at draft.now columns.now) }
 {
-    let operand = operand_at(document, draft.schema_at, draft.table_at);
-    at_operand(alloc, draft, file_key(alloc, columns, operand))
+    at_operand(alloc, draft, draft.key.places(alloc, columns))
 }
 
 fn with_columns(
@@ -164,14 +118,13 @@ fn with_columns(
 
 fn file_table(
     alloc: Global,
-    document: &Json,
     draft: &Draft,
     columns: &List<ColumnDef>,
 ) -> Result<TableDef, ModelFault>
     requires { length columns.now ≤ COLUMN_LIMIT }
-    ensures { Gives (λ t. t) result (spec.file_table (view document.now) draft.now columns.now) }
+    ensures { Gives (λ t. t) result (spec.file_table draft.now columns.now) }
 {
-    let key = file_key_at(alloc, document, draft, columns)?;
+    let key = file_key_at(alloc, draft, columns)?;
     Ok(with_columns(alloc, &draft.table, columns, key)?)
 }
 
@@ -192,36 +145,34 @@ fn header_at(
 
 fn whole_table(
     alloc: Global,
-    document: &Json,
     headers: &List<Option<List<ColumnDef>>>,
     number: usize,
     draft: &Draft,
 ) -> Result<TableDef, ModelFault>
     requires { spec.AreShort headers.now }
-    ensures { Gives (λ t. t) result (spec.whole_table (view document.now) headers.now number draft.now) }
+    ensures { Gives (λ t. t) result (spec.whole_table headers.now number draft.now) }
 {
     match &draft.rows {
         Some(_) => Ok(draft.table.copy(alloc)?),
         None => {
             let columns = header_at(alloc, headers, number)?;
-            file_table(alloc, document, draft, &columns)
+            file_table(alloc, draft, &columns)
         }
     }
 }
 
 fn second_walk(
     alloc: Global,
-    document: &Json,
     headers: &List<Option<List<ColumnDef>>>,
     drafts: &[Draft],
 ) -> Result<List<TableDef>, ModelFault>
     requires { spec.AreShort headers.now }
-    ensures tables { Gives (λ ts. ts) result (spec.second_walk (view document.now) headers.now drafts.now) }
+    ensures tables { Gives (λ ts. ts) result (spec.second_walk headers.now drafts.now) }
     ensures count { IfOk result (λ ts. length ts ≡ length drafts.now) }
 {
     let mut tables = List::new(alloc);
     for draft in drafts {
-        let table = whole_table(alloc, document, headers, tables.len(), draft)?;
+        let table = whole_table(alloc, headers, tables.len(), draft)?;
         tables.push(table)?;
     }
     Ok(tables)
@@ -306,7 +257,7 @@ fn resolved(
     ensures model { Gives (λ m. m) result (spec.resolved (view document.now) headers.now drafts) }
     ensures count { IfOk result (λ m. length m.schema.tables ≡ length drafts.tables) }
 {
-    let tables = second_walk(alloc, document, headers, drafts.tables.as_slice())?;
+    let tables = second_walk(alloc, headers, drafts.tables.as_slice())?;
     third_walk(alloc, document)?;
     let inline = inline_rows(alloc, drafts.tables)?;
     Ok(Model {

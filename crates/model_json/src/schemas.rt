@@ -2,17 +2,17 @@
 ghost use Rattle.std.specs.Prelude.{◌≡◌, ◌≤◌, ◌+◌, length, IfOk, OnOk, option_map, string_bytes};
 ghost use Rattle.std.specs.Option.{option_copied};
 ghost use Rattle.serde_json.specs.View.{view, items_view};
-ghost use Rattle.model_json.specs.Reading.{Gives, item_in_turn};
+ghost use Rattle.model_fields.specs.Reading.{Gives, item_in_turn};
 ghost use Rattle.model_json.specs.Schemas as spec;
 
 use crate::draft::{Draft, Drafts};
-use crate::fault::{ModelCause, ModelFault, at_item, at_member, bad};
-use crate::member::{
-    character_count, list_of, name_of, object_of, required, sql_text, text_of, word_at,
-};
 use crate::tables::tables;
 use cal_value::{Duplicate, List, NAME_LIMIT, SqlText, TABLE_LIMIT};
 use indexmap::IndexSet;
+use model_fields::{
+    ModelCause, ModelFault, at_item, at_member, bad, character_count, list_of, name_of, object_of,
+    required, sql_text, text_of, word_at,
+};
 use serde_json::Value as Json;
 use std::alloc::Global;
 

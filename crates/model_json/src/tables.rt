@@ -2,16 +2,16 @@
 ghost use Rattle.std.specs.Prelude.{◌≡◌, ◌≤◌, ◌+◌, length, IfOk};
 ghost use Rattle.std.specs.List.{list_any};
 ghost use Rattle.serde_json.specs.View.{view, items_view};
-ghost use Rattle.model_json.specs.Reading.{Gives, each, read_item};
+ghost use Rattle.model_fields.specs.Reading.{Gives, each, read_item};
 ghost use Rattle.model_json.specs.Tables as spec;
 
-use crate::columns::{columns, keyed, primary_key};
 use crate::draft::{Contents, Draft};
-use crate::fault::{ModelCause, ModelFault, at_item, at_member, bad};
-use crate::member::{list_of, name_of, object_of, required, sql_text, text_of, word_at};
-use crate::rows::{keys_apart, rows};
 use cal_schema::{AdapterKind, ColumnDef, TableDef, is_compressed};
 use cal_value::{COLUMN_LIMIT, Duplicate, List, ROW_LIMIT, Row, SqlText, TABLE_LIMIT};
+use model_fields::{
+    KeyMember, ModelCause, ModelFault, at_item, at_member, bad, columns, keyed, keys_apart,
+    list_of, name_of, object_of, primary_key, required, rows, sql_text, text_of, word_at,
+};
 use serde_json::Value as Json;
 use std::alloc::Global;
 
@@ -74,11 +74,13 @@ fn csv_operand(alloc: Global, operand: &Json) -> Result<Contents, ModelFault>
 {
     let file = file_at(alloc, operand)?;
     let max_rows = most_rows(alloc, operand)?;
+    let key = KeyMember::of(operand)?;
     Ok(Contents {
         file,
         max_rows,
         columns: List::new(alloc),
         primary_key: List::new(alloc),
+        key,
         rows: None,
     })
 }
@@ -130,6 +132,7 @@ fn mem_operand(alloc: Global, operand: &Json) -> Result<Contents, ModelFault>
         max_rows,
         columns,
         primary_key,
+        key: KeyMember::none(),
         rows: Some(rows),
     })
 }
@@ -226,6 +229,7 @@ fn draft_of(
             max_rows: contents.max_rows,
             primary_key: contents.primary_key,
         },
+        key: contents.key,
         rows: contents.rows,
     }
 }
@@ -281,7 +285,7 @@ fn each_table(
     Ok(tables)
 }
 
-#[tactic(auto, using(crate::proofs::ItemLemmas::count_items))]
+#[tactic(auto, using(model_fields::proofs::ItemLemmas::count_items))]
 fn table_list(
     alloc: Global,
     schema_at: usize,

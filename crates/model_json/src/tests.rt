@@ -1,7 +1,7 @@
 ghost use Rattle.std.specs.Prelude.{◌≤◌, [], ◌∷◌, length, IfOk};
 ghost use Rattle.model_json.specs.ModelOf.{AreShort};
 
-use crate::{Model, ModelCause, ModelFault, TableSource, read_model, resolve, sources};
+use crate::{Model, ModelFault, TableSource, read_model, resolve, sources};
 use cal_schema::{AdapterKind, ColumnDef};
 use cal_value::{COLUMN_LIMIT, List, NoMemory, Row, SqlText, Value};
 use std::alloc::Global;
@@ -49,409 +49,169 @@ fn model(alloc: Global, text: &str) -> Result<Result<Model, ModelFault>, Fail> {
     Ok(resolve(alloc, doc, &headers))
 }
 
-fn is_fault_at<T: Drop>(answer: Result<T, ModelFault>, path: &str, cause: ModelCause) -> bool {
-    match answer {
+fn has_fault(alloc: Global, text: &str, path: &str, cause: &str) -> Result<bool, Fail> {
+    match model(alloc, text)? {
         Err(
             ModelFault::BadModel {
                 path: found,
                 cause: why,
             },
-        ) => found.as_slice() == path.as_bytes() && why == cause,
-        _ => false,
+        ) => {
+            let why = format!(in alloc; "{why}")?;
+            Ok(found.as_slice() == path.as_bytes() && why.as_str() == cause)
+        }
+        _ => Ok(false),
     }
 }
 
-fn has_fault(alloc: Global, text: &str, path: &str, cause: ModelCause) -> Result<bool, Fail> {
-    Ok(is_fault_at(model(alloc, text)?, path, cause))
+// The first line whose model has another fault, and the empty text where there is none. A line is the path below `at`, the cause, and what
+// stands in the model between `before` and `after`.
+fn wrong_line<'a>(
+    alloc: Global,
+    at: &str,
+    before: &str,
+    lines: &'a str,
+    after: &str,
+) -> Result<&'a str, Fail> {
+    for line in lines.lines() {
+        if line.is_empty() {
+            continue;
+        }
+        let (path, rest) = line.split_once(' ').ok_or("no cause")?;
+        let (cause, text) = rest.split_once(' ').ok_or("no text")?;
+        let path = format!(in alloc; "{at}{path}")?;
+        let text = format!(in alloc; "{before}{text}{after}")?;
+        if !has_fault(alloc, text.as_str(), path.as_str(), cause)? {
+            return Ok(line);
+        }
+    }
+    Ok("")
 }
+
+const DOCUMENTS: &str = r#"
+/ WrongKind []
+/version BadValue {"version":"1.1","schemas":[]}
+/version WrongKind {"version":1,"schemas":{}}
+/version WrongKind {"version":null,"schemas":[]}
+/schemas Missing {}
+/schemas WrongKind {"schemas":{},"defaultSchema":1}
+/defaultSchema NoSuchName {"schemas":[1],"defaultSchema":"S"}
+/defaultSchema NoSuchName {"schemas":[{"name":"s"}],"defaultSchema":"S"}
+/defaultSchema WrongKind {"schemas":[1],"defaultSchema":2}
+/schemas/0 WrongKind {"schemas":[1],"version":"1.0"}
+/schemas/0/name Missing {"schemas":[{"type":1}]}
+/schemas/2/name Repeated {"schemas":[{"name":"S"},{"name":"T"},{"tables":1,"name":"S"}]}
+/schemas/0/type BadValue {"schemas":[{"name":"S","type":"jdbc","tables":1}]}
+/schemas/0/tables WrongKind {"schemas":[{"name":"S","type":"map","tables":{}}]}
+/schemas/1/lattices NotYet {"schemas":[{"name":"S","lattices":[]},{"name":"T","lattices":[{}]}]}
+/schemas/0/lattices WrongKind {"schemas":[{"name":"S","lattices":{}}]}
+/schemas/1/name Repeated {"schemas":[{"name":"S","lattices":[1]},{"name":"S"}]}
+"#;
+
+const TABLES: &str = r#"
+0 WrongKind 1
+0/name Missing {}
+0/name WrongKind {"name":1,"type":1}
+0/type BadValue {"name":"T","type":"view","factory":1}
+0/factory Missing {"name":"T","type":"custom"}
+0/factory BadValue {"name":"T","factory":"org"}
+0/operand Missing {"name":"T","factory":"cal.MemTableFactory"}
+0/operand WrongKind {"name":"T","factory":"cal.MemTableFactory","operand":[]}
+1/name Repeated {"name":"T","factory":"cal.MemTableFactory","operand":{"columns":["A"],"rows":[]}},{"name":"T"}
+"#;
+
+const OPERANDS: &str = r#"
+maxRows BadValue "maxRows":0
+maxRows BadValue "maxRows":-1
+maxRows BadValue "maxRows":1.0
+maxRows BadValue "maxRows":1e3
+maxRows BadValue "maxRows":1048577
+maxRows WrongKind "maxRows":"1"
+columns Missing "maxRows":1048576
+columns WrongKind "columns":{}
+columns BadValue "columns":[]
+columns/0 WrongKind "columns":[1]
+columns/1 BadValue "columns":["A:int","A:byte"]
+columns/1 BadValue "columns":["A:int",":int"]
+columns/2 Repeated "columns":["A:int","B","A"]
+rows Missing "columns":["A:int"]
+rows WrongKind "columns":["A:int"],"rows":null
+rows TooMany "columns":["A:int"],"maxRows":1,"rows":[1,2]
+"#;
+
+const ROWS: &str = r#"
+0 WrongKind 1
+1 BadValue [1,true,"x",2],[1,true]
+0 BadValue [1,true,"x",2,3]
+0/0 BadValue [1.0,true,"x",2]
+0/0 BadValue [1e3,true,"x",2]
+0/0 BadValue [-0,true,"x",2]
+0/0 BadValue [2147483648,true,"x",2]
+0/0 BadValue [99999999999999999999,true,"x",2]
+0/0 WrongKind [true,true,"x",2]
+0/0 WrongKind [[true],true,"x",2]
+0/0 WrongKind ["1",true,"x",2]
+0/1 WrongKind [1,1,"x",2]
+0/2 WrongKind [1,null,2,2]
+0/3 BadValue [1,null,null,32768]
+1/3 WrongKind [1,null,"x",-32768],[null,false,"",{}]
+"#;
+
+const KEYS: &str = r#"
+primaryKey WrongKind "primaryKey":1,"rows":[]
+primaryKey/0 WrongKind "primaryKey":[1],"rows":[]
+primaryKey/1 NoSuchName "primaryKey":["A","C"],"rows":[]
+primaryKey/0 NoSuchName "primaryKey":["a"],"rows":[]
+primaryKey/2 Repeated "primaryKey":["A","B","A"],"rows":[[null,null]]
+rows/2 NullValue "primaryKey":["A"],"rows":[[1,null],[2,null],[null,null],[1,null]]
+rows/2 KeyTaken "primaryKey":["A"],"rows":[[1,"x"],[2,"x"],[1,"y"],[null,"x"]]
+rows/3 KeyTaken "primaryKey":["B","A"],"rows":[[1,"x"],[2,"x"],[1,"y"],[2,"x"]]
+rows/2/1 WrongKind "primaryKey":1,"rows":[[1,"x"],[2,"x"],[1,2]]
+"#;
+
+const FILES: &str = r#"
+tables/0/operand/file Missing "maxRows":1
+tables/0/operand/file WrongKind "file":1,"maxRows":0
+tables/0/operand/file Compressed "file":"a.gz"
+tables/0/operand/file Compressed "file":"a.Gz"
+tables/0/operand/file Compressed "file":".gZ"
+tables/0/operand/maxRows BadValue "file":"a.csv","maxRows":0,"primaryKey":1
+tables/1/name Missing "file":"gz","primaryKey":1}},{"operand":{
+tables/0/operand/primaryKey WrongKind "file":"agz","primaryKey":1
+tables/0/operand/primaryKey/0 WrongKind "file":"a","primaryKey":[1,"C"]
+tables/0/operand/primaryKey/1 NoSuchName "file":"a","primaryKey":["B","C"]
+tables/0/operand/primaryKey/1 Repeated "file":"a","primaryKey":["B","B"]
+tables/1/operand/primaryKey/0 NoSuchName "file":"a","primaryKey":["B"]}},{"name":"U","factory":"org.apache.calcite.adapter.csv.CsvTableFactory","operand":{"file":"b","primaryKey":["C"]
+lattices NotYet "file":"a","primaryKey":["B","A"]
+"#;
+
+// A table in memory, up to its operand.
+const MEMORY: &str =
+    r#"{"schemas":[{"name":"S","tables":[{"name":"T","factory":"cal.MemTableFactory","operand":{"#;
+
+// A table that is read from a file, up to its operand.
+const FILE: &str =
+    r#"{"schemas":[{"name":"S","lattices":[1],"tables":[{"name":"T","factory":"org.apache.calcite.adapter.csv.CsvTableFactory","operand":{"#;
 
 #[test]
-fn faults_of_the_document_and_of_schemas(rt: HostRuntime) -> Result<(), Fail> {
+fn faults_with_their_paths(rt: HostRuntime) -> Result<(), Fail> {
     let alloc = rt.alloc();
-    for (text, path, cause) in [
-        ("[]", "/", ModelCause::WrongKind),
-        (
-            r#"{"version":"1.1","schemas":[]}"#,
-            "/version",
-            ModelCause::BadValue,
-        ),
-        (
-            r#"{"version":1,"schemas":{}}"#,
-            "/version",
-            ModelCause::WrongKind,
-        ),
-        (
-            r#"{"version":null,"schemas":[]}"#,
-            "/version",
-            ModelCause::WrongKind,
-        ),
-        ("{}", "/schemas", ModelCause::Missing),
-        (
-            r#"{"schemas":{},"defaultSchema":1}"#,
-            "/schemas",
-            ModelCause::WrongKind,
-        ),
-        (
-            r#"{"schemas":[1],"defaultSchema":"S"}"#,
-            "/defaultSchema",
-            ModelCause::NoSuchName,
-        ),
-        (
-            r#"{"schemas":[{"name":"s"}],"defaultSchema":"S"}"#,
-            "/defaultSchema",
-            ModelCause::NoSuchName,
-        ),
-        (
-            r#"{"schemas":[1],"defaultSchema":2}"#,
-            "/defaultSchema",
-            ModelCause::WrongKind,
-        ),
-        (
-            r#"{"schemas":[1],"version":"1.0"}"#,
-            "/schemas/0",
-            ModelCause::WrongKind,
-        ),
-        (
-            r#"{"schemas":[{"type":1}]}"#,
-            "/schemas/0/name",
-            ModelCause::Missing,
-        ),
-        (
-            r#"{"schemas":[{"name":"S"},{"name":"T"},{"tables":1,"name":"S"}]}"#,
-            "/schemas/2/name",
-            ModelCause::Repeated,
-        ),
-        (
-            r#"{"schemas":[{"name":"S","type":"jdbc","tables":1}]}"#,
-            "/schemas/0/type",
-            ModelCause::BadValue,
-        ),
-        (
-            r#"{"schemas":[{"name":"S","type":"map","tables":{}}]}"#,
-            "/schemas/0/tables",
-            ModelCause::WrongKind,
-        ),
-        (
-            r#"{"schemas":[{"name":"S","lattices":[]},{"name":"T","lattices":[{}]}]}"#,
-            "/schemas/1/lattices",
-            ModelCause::NotYet,
-        ),
-        (
-            r#"{"schemas":[{"name":"S","lattices":{}}]}"#,
-            "/schemas/0/lattices",
-            ModelCause::WrongKind,
-        ),
-        (
-            r#"{"schemas":[{"name":"S","lattices":[1]},{"name":"S"}]}"#,
-            "/schemas/1/name",
-            ModelCause::Repeated,
-        ),
-    ] {
-        assert!(rt; has_fault(alloc, text, path, cause)?, "{text}");
-    }
-    Ok(())
-}
-
-// A fault of the tables of a schema S.
-fn has_table_fault(
-    alloc: Global,
-    tables: &str,
-    path: &str,
-    cause: ModelCause,
-) -> Result<bool, Fail> {
-    let text = format!(in alloc; "{{\"schemas\":[{{\"name\":\"S\",\"tables\":[{tables}]}}]}}")?;
-    let path = format!(in alloc; "/schemas/0/tables/{path}")?;
-    has_fault(alloc, text.as_str(), path.as_str(), cause)
-}
-
-#[test]
-fn faults_of_tables(rt: HostRuntime) -> Result<(), Fail> {
-    let alloc = rt.alloc();
-    for (tables, path, cause) in [
-        ("1", "0", ModelCause::WrongKind),
-        ("{}", "0/name", ModelCause::Missing),
-        (r#"{"name":1,"type":1}"#, "0/name", ModelCause::WrongKind),
-        (
-            r#"{"name":"T","type":"view","factory":1}"#,
-            "0/type",
-            ModelCause::BadValue,
-        ),
-        (
-            r#"{"name":"T","type":"custom"}"#,
-            "0/factory",
-            ModelCause::Missing,
-        ),
-        (
-            r#"{"name":"T","factory":"org"}"#,
-            "0/factory",
-            ModelCause::BadValue,
-        ),
-        (
-            r#"{"name":"T","factory":"cal.MemTableFactory"}"#,
-            "0/operand",
-            ModelCause::Missing,
-        ),
-        (
-            r#"{"name":"T","factory":"cal.MemTableFactory","operand":[]}"#,
-            "0/operand",
-            ModelCause::WrongKind,
-        ),
-        (
-            r#"{"name":"T","factory":"cal.MemTableFactory","operand":{"columns":["A"],"rows":[]}},{"name":"T"}"#,
-            "1/name",
-            ModelCause::Repeated,
-        ),
-    ] {
-        assert!(rt; has_table_fault(alloc, tables, path, cause)?, "{tables}");
-    }
-    Ok(())
-}
-
-// A fault of the operand of a table in memory.
-fn has_operand_fault(
-    alloc: Global,
-    operand: &str,
-    path: &str,
-    cause: ModelCause,
-) -> Result<bool, Fail> {
-    let table = format!(in alloc;
-        "{{\"name\":\"T\",\"factory\":\"cal.MemTableFactory\",\"operand\":{{{operand}}}}}"
+    let schema = r#"{"schemas":[{"name":"S","tables":["#;
+    let rows = format!(in alloc;
+        "{MEMORY}\"columns\":[\"A:int\",\"B:boolean\",\"C\",\"D:short\"],\"rows\":["
     )?;
-    let path = format!(in alloc; "0/operand/{path}")?;
-    has_table_fault(alloc, table.as_str(), path.as_str(), cause)
-}
-
-#[test]
-fn faults_of_columns_and_limits(rt: HostRuntime) -> Result<(), Fail> {
-    let alloc = rt.alloc();
-    for (operand, path, cause) in [
-        (r#""maxRows":0"#, "maxRows", ModelCause::BadValue),
-        (r#""maxRows":-1"#, "maxRows", ModelCause::BadValue),
-        (r#""maxRows":1.0"#, "maxRows", ModelCause::BadValue),
-        (r#""maxRows":1e3"#, "maxRows", ModelCause::BadValue),
-        (r#""maxRows":1048577"#, "maxRows", ModelCause::BadValue),
-        (r#""maxRows":"1""#, "maxRows", ModelCause::WrongKind),
-        (r#""maxRows":1048576"#, "columns", ModelCause::Missing),
-        (r#""columns":{}"#, "columns", ModelCause::WrongKind),
-        (r#""columns":[]"#, "columns", ModelCause::BadValue),
-        (r#""columns":[1]"#, "columns/0", ModelCause::WrongKind),
-        (
-            r#""columns":["A:int","A:byte"]"#,
-            "columns/1",
-            ModelCause::BadValue,
-        ),
-        (
-            r#""columns":["A:int",":int"]"#,
-            "columns/1",
-            ModelCause::BadValue,
-        ),
-        (
-            r#""columns":["A:int","B","A"]"#,
-            "columns/2",
-            ModelCause::Repeated,
-        ),
-        (r#""columns":["A:int"]"#, "rows", ModelCause::Missing),
-        (
-            r#""columns":["A:int"],"rows":null"#,
-            "rows",
-            ModelCause::WrongKind,
-        ),
-        (
-            r#""columns":["A:int"],"maxRows":1,"rows":[1,2]"#,
-            "rows",
-            ModelCause::TooMany,
-        ),
+    let keys = format!(in alloc; "{MEMORY}\"columns\":[\"A:int\",\"B\"],")?;
+    let operand = "/schemas/0/tables/0/operand/";
+    let row = "/schemas/0/tables/0/operand/rows/";
+    for (at, before, lines, after) in [
+        ("", "", DOCUMENTS, ""),
+        ("/schemas/0/tables/", schema, TABLES, "]}]}"),
+        (operand, MEMORY, OPERANDS, "}}]}]}"),
+        (row, rows.as_str(), ROWS, "]}}]}]}"),
+        (operand, keys.as_str(), KEYS, "}}]}]}"),
+        ("/schemas/0/", FILE, FILES, "}}]}]}"),
     ] {
-        assert!(rt;
-            has_operand_fault(alloc, operand, path, cause)?,
-            "{operand}"
-        );
-    }
-    Ok(())
-}
-
-#[test]
-fn faults_of_rows(rt: HostRuntime) -> Result<(), Fail> {
-    let alloc = rt.alloc();
-    for (rows, path, cause) in [
-        ("1", "rows/0", ModelCause::WrongKind),
-        ("[1,true,\"x\",2],[1,true]", "rows/1", ModelCause::BadValue),
-        ("[1,true,\"x\",2,3]", "rows/0", ModelCause::BadValue),
-        ("[1.0,true,\"x\",2]", "rows/0/0", ModelCause::BadValue),
-        ("[1e3,true,\"x\",2]", "rows/0/0", ModelCause::BadValue),
-        ("[-0,true,\"x\",2]", "rows/0/0", ModelCause::BadValue),
-        (
-            "[2147483648,true,\"x\",2]",
-            "rows/0/0",
-            ModelCause::BadValue,
-        ),
-        (
-            "[99999999999999999999,true,\"x\",2]",
-            "rows/0/0",
-            ModelCause::BadValue,
-        ),
-        ("[true,true,\"x\",2]", "rows/0/0", ModelCause::WrongKind),
-        ("[[true],true,\"x\",2]", "rows/0/0", ModelCause::WrongKind),
-        ("[\"1\",true,\"x\",2]", "rows/0/0", ModelCause::WrongKind),
-        ("[1,1,\"x\",2]", "rows/0/1", ModelCause::WrongKind),
-        ("[1,null,2,2]", "rows/0/2", ModelCause::WrongKind),
-        ("[1,null,null,32768]", "rows/0/3", ModelCause::BadValue),
-        (
-            "[1,null,\"x\",-32768],[null,false,\"\",{}]",
-            "rows/1/3",
-            ModelCause::WrongKind,
-        ),
-    ] {
-        let operand = format!(in alloc;
-            "\"columns\":[\"A:int\",\"B:boolean\",\"C\",\"D:short\"],\"rows\":[{rows}]"
-        )?;
-        assert!(rt;
-            has_operand_fault(alloc, operand.as_str(), path, cause)?,
-            "{rows}"
-        );
-    }
-    Ok(())
-}
-
-#[test]
-fn faults_of_keys(rt: HostRuntime) -> Result<(), Fail> {
-    let alloc = rt.alloc();
-    for (rows, key, path, cause) in [
-        ("", "1", "primaryKey", ModelCause::WrongKind),
-        ("", "[1]", "primaryKey/0", ModelCause::WrongKind),
-        ("", "[\"A\",\"C\"]", "primaryKey/1", ModelCause::NoSuchName),
-        ("", "[\"a\"]", "primaryKey/0", ModelCause::NoSuchName),
-        (
-            "[null,null]",
-            "[\"A\",\"B\",\"A\"]",
-            "primaryKey/2",
-            ModelCause::Repeated,
-        ),
-        (
-            "[1,null],[2,null],[null,null],[1,null]",
-            "[\"A\"]",
-            "rows/2",
-            ModelCause::NullValue,
-        ),
-        (
-            "[1,\"x\"],[2,\"x\"],[1,\"y\"],[null,\"x\"]",
-            "[\"A\"]",
-            "rows/2",
-            ModelCause::KeyTaken,
-        ),
-        (
-            "[1,\"x\"],[2,\"x\"],[1,\"y\"],[2,\"x\"]",
-            "[\"B\",\"A\"]",
-            "rows/3",
-            ModelCause::KeyTaken,
-        ),
-        (
-            "[1,\"x\"],[2,\"x\"],[1,2]",
-            "1",
-            "rows/2/1",
-            ModelCause::WrongKind,
-        ),
-    ] {
-        let operand = format!(in alloc;
-            "\"columns\":[\"A:int\",\"B\"],\"primaryKey\":{key},\"rows\":[{rows}]"
-        )?;
-        assert!(rt;
-            has_operand_fault(alloc, operand.as_str(), path, cause)?,
-            "{rows} {key}"
-        );
-    }
-    Ok(())
-}
-
-// A fault of the operand of a table that is read from a file, in a schema after which another follows.
-fn has_file_fault(
-    alloc: Global,
-    operand: &str,
-    second: &str,
-    path: &str,
-    cause: ModelCause,
-) -> Result<bool, Fail> {
-    let text = format!(in alloc;
-        "{{\"schemas\":[{{\"name\":\"S\",\"lattices\":[1],\"tables\":[{{\"name\":\"T\",\"factory\":\"org.apache.calcite.adapter.csv.CsvTableFactory\",\"operand\":{{{operand}}}}}]}},{{{second}}}]}}"
-    )?;
-    has_fault(alloc, text.as_str(), path, cause)
-}
-
-#[test]
-fn faults_of_files(rt: HostRuntime) -> Result<(), Fail> {
-    let alloc = rt.alloc();
-    for (operand, second, path, cause) in [
-        (
-            "",
-            r#""name":"U""#,
-            "/schemas/0/tables/0/operand/file",
-            ModelCause::Missing,
-        ),
-        (
-            r#""file":1,"maxRows":0"#,
-            r#""name":"U""#,
-            "/schemas/0/tables/0/operand/file",
-            ModelCause::WrongKind,
-        ),
-        (
-            r#""file":"a.gz""#,
-            r#""name":"U""#,
-            "/schemas/0/tables/0/operand/file",
-            ModelCause::Compressed,
-        ),
-        (
-            r#""file":"a.Gz""#,
-            r#""name":"U""#,
-            "/schemas/0/tables/0/operand/file",
-            ModelCause::Compressed,
-        ),
-        (
-            r#""file":".gZ""#,
-            r#""name":"U""#,
-            "/schemas/0/tables/0/operand/file",
-            ModelCause::Compressed,
-        ),
-        (
-            r#""file":"a.csv","maxRows":0,"primaryKey":1"#,
-            r#""name":"U""#,
-            "/schemas/0/tables/0/operand/maxRows",
-            ModelCause::BadValue,
-        ),
-        (
-            r#""file":"gz","primaryKey":1"#,
-            r#""name":"S""#,
-            "/schemas/1/name",
-            ModelCause::Repeated,
-        ),
-        (
-            r#""file":"agz","primaryKey":1"#,
-            r#""name":"U""#,
-            "/schemas/0/tables/0/operand/primaryKey",
-            ModelCause::WrongKind,
-        ),
-        (
-            r#""file":"a","primaryKey":["B","C"]"#,
-            r#""name":"U""#,
-            "/schemas/0/tables/0/operand/primaryKey/1",
-            ModelCause::NoSuchName,
-        ),
-        (
-            r#""file":"a","primaryKey":["B","B"]"#,
-            r#""name":"U""#,
-            "/schemas/0/tables/0/operand/primaryKey/1",
-            ModelCause::Repeated,
-        ),
-        (
-            r#""file":"a","primaryKey":["B","A"]"#,
-            r#""name":"U""#,
-            "/schemas/0/lattices",
-            ModelCause::NotYet,
-        ),
-    ] {
-        assert!(rt;
-            has_file_fault(alloc, operand, second, path, cause)?,
-            "{operand}"
-        );
+        assert_eq!(rt; wrong_line(alloc, at, before, lines, after)?, "");
     }
     Ok(())
 }
@@ -483,30 +243,49 @@ fn many_tables(alloc: Global, count: usize) -> Result<String, NoMemory> {
 fn counts_at_their_limits(rt: HostRuntime) -> Result<(), Fail> {
     let alloc = rt.alloc();
     let first = many_tables(alloc, 60)?;
-    for (count, is_taken) in [(4, true), (5, false)] {
+    let before = format!(in alloc;
+        "{{\"schemas\":[{{\"name\":\"S\",\"tables\":[{first}]}},{{\"name\":\"U\",\"tables\":["
+    )?;
+    for (count, fault) in [(4, "2 WrongKind"), (5, "1/tables TooMany")] {
         let second = many_tables(alloc, count)?;
-        let text = format!(in alloc;
-            "{{\"schemas\":[{{\"name\":\"S\",\"tables\":[{first}]}},{{\"name\":\"U\",\"tables\":[{second}]}}]}}"
-        )?;
-        if is_taken {
-            assert!(rt; model(alloc, text.as_str())?.is_ok());
-        } else {
-            assert!(rt;
-                has_fault(
-                    alloc,
-                    text.as_str(),
-                    "/schemas/1/tables",
-                    ModelCause::TooMany
-                )?
-            );
-        }
+        let line = format!(in alloc; "{fault} {second}")?;
+        let wrong = wrong_line(alloc, "/schemas/", before.as_str(), line.as_str(), "]},1]}")?;
+        assert_eq!(rt; wrong, "");
     }
-    let columns = repeated(alloc, "1,", 32)?;
-    let operand = format!(in alloc; "\"columns\":[{columns}1]")?;
-    assert!(rt; has_operand_fault(alloc, operand.as_str(), "columns", ModelCause::TooMany)?);
-    let columns = repeated(alloc, "1,", 31)?;
-    let operand = format!(in alloc; "\"columns\":[{columns}1]")?;
-    assert!(rt; has_operand_fault(alloc, operand.as_str(), "columns/0", ModelCause::WrongKind)?);
+    let before = format!(in alloc; "{MEMORY}\"columns\":[")?;
+    for (count, fault) in [(31, "columns/0 WrongKind"), (32, "columns TooMany")] {
+        let columns = repeated(alloc, "1,", count)?;
+        let line = format!(in alloc; "{fault} {columns}")?;
+        let at = "/schemas/0/tables/0/operand/";
+        let wrong = wrong_line(alloc, at, before.as_str(), line.as_str(), "1]}}]}]}")?;
+        assert_eq!(rt; wrong, "");
+    }
+    Ok(())
+}
+
+#[test]
+fn names_and_texts_at_their_limits(rt: HostRuntime) -> Result<(), Fail> {
+    let alloc = rt.alloc();
+    for (count, fault) in [
+        (128, "/schemas/0/type BadValue"),
+        (129, "/schemas/0/name TextTooLong"),
+    ] {
+        let name = repeated(alloc, "a", count)?;
+        let line = format!(in alloc; "{fault} {name}")?;
+        let before = r#"{"schemas":[{"type":"x","name":""#;
+        assert_eq!(rt;
+            wrong_line(alloc, "", before, line.as_str(), r#""}]}"#)?,
+            ""
+        );
+    }
+    for (count, fault) in [(4000, "/version BadValue"), (4001, "/version TextTooLong")] {
+        let text = repeated(alloc, "a", count)?;
+        let line = format!(in alloc; "{fault} {text}")?;
+        assert_eq!(rt;
+            wrong_line(alloc, "", r#"{"version":""#, line.as_str(), r#""}"#)?,
+            ""
+        );
+    }
     Ok(())
 }
 
@@ -636,58 +415,5 @@ fn columns_and_rows_of_a_model(rt: HostRuntime) -> Result<(), Fail> {
     };
     assert!(rt; has_row(alloc, first, -9223372036854775808, Value::Null, "ß")?);
     assert!(rt; has_row(alloc, second, 9223372036854775807, Value::Bool(true), "")?);
-    Ok(())
-}
-
-// So many letters between two texts.
-fn letters_between(
-    alloc: Global,
-    before: &str,
-    count: usize,
-    after: &str,
-) -> Result<Vec<u8>, Fail> {
-    let mut bytes = before.as_bytes().to_vec(alloc)?;
-    for _ in 0..count {
-        bytes.push(b'a')?;
-    }
-    bytes.extend_from_slice(after.as_bytes())?;
-    Ok(bytes)
-}
-
-fn schema_of_name(alloc: Global, count: usize) -> Result<Result<(), ModelFault>, Fail> {
-    let bytes = letters_between(alloc, r#"{"schemas":[{"name":""#, count, r#""}]}"#)?;
-    Ok(read_model(alloc, bytes.as_slice()).map(|_| ()))
-}
-
-fn version_of_text(alloc: Global, count: usize) -> Result<Result<(), ModelFault>, Fail> {
-    let bytes = letters_between(alloc, r#"{"schemas":[],"version":""#, count, r#""}"#)?;
-    Ok(read_model(alloc, bytes.as_slice()).map(|_| ()))
-}
-
-#[test]
-fn names_and_texts_at_their_limits(rt: HostRuntime) -> Result<(), Fail> {
-    let alloc = rt.alloc();
-    assert!(rt; schema_of_name(alloc, 128)?.is_ok());
-    assert!(rt;
-        is_fault_at(
-            schema_of_name(alloc, 129)?,
-            "/schemas/0/name",
-            ModelCause::TextTooLong
-        )
-    );
-    assert!(rt;
-        is_fault_at(
-            version_of_text(alloc, 4000)?,
-            "/version",
-            ModelCause::BadValue
-        )
-    );
-    assert!(rt;
-        is_fault_at(
-            version_of_text(alloc, 4001)?,
-            "/version",
-            ModelCause::TextTooLong
-        )
-    );
     Ok(())
 }

@@ -1,3 +1,4 @@
 pub mod Nothing
 pub mod OneEntry
 pub mod Places
+pub mod Used

@@ -29,7 +29,7 @@ columns_of schema table = unwrap_or (option_map (λ t. t.columns) (option_and_th
 
 abbrev pub names_used : Cond → List (List ℕ)
 names_used (On tree) = []
-names_used (Using names) = names
+names_used (Using names) = map (λ name. name.name) names
 
 abbrev pub hidden_by : How → List (List ℕ)
 hidden_by First = []

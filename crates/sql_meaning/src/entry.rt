@@ -1,11 +1,12 @@
 //! The entries of FROM as names see them.
 ghost use Rattle.std.specs.Prelude.{◌≡◌, ◌<◌, length, position, IfSome};
+ghost use Rattle.std.specs.List.{list_any};
 ghost use Rattle.cal_schema.specs.Lookup.{is_same_name};
 ghost use Rattle.sql_meaning.specs.Scope as spec;
 
 use cal_schema::ColumnDef;
 use cal_value::SqlText;
-use sql_tree::{ColumnName, Cond, FromEntry, How};
+use sql_tree::{ColumnName, Cond, FromEntry, How, UsingName};
 use std::marker::Model;
 
 /// An entry of FROM with the columns of its table. Contracts see its alias, its columns, and those of them that its own
@@ -24,12 +25,19 @@ impl<'a> Model for Entry<'a> {
     ghost view = { λ e. header e.from.now e.columns.now };
 }
 
+fn is_named(names: &[UsingName], name: &SqlText) -> bool
+    ensures { result ≡ list_any (λ used. is_same_name name.now used.name) names.now }
+{
+    names.iter().any(|used| *name == used.name)
+}
+
+#[tactic(auto, using(crate::proofs::Used::among_names))]
 fn is_used(cond: &Cond, name: &SqlText) -> bool
     ensures { result ≡ spec.is_among name.now (spec.names_used cond.now) }
 {
     match cond {
         Cond::On(_) => false,
-        Cond::Using(names) => names.as_slice().iter().any(|used| *name == *used),
+        Cond::Using(names) => is_named(names.as_slice(), name),
     }
 }
 

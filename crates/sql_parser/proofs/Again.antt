@@ -21,9 +21,10 @@ use Rattle.sql_tree.specs.declared.tree.ColumnName.{ColumnName}
 use Rattle.sql_printer.specs.Printing.{Printed, node, printed_tree, tree_tokens, at_least, in_brackets, dotted, column_tokens, value_level, value_tokens, op_level, left_level, op_token, agg_token, binary_tokens, null_test_tokens, call_tokens}
 use Rattle.sql_printer.proofs.Writes.{printed_binary}
 use Rattle.sql_tree.specs.Same.{placeless_node, placeless_tree}
-use Rattle.sql_parser.specs.Operators.{aggregates}
-use Rattle.sql_parser.specs.Grammar.{is_column, of_column, column_layer, measure_layer, IsColumn, plain, qualified, IsExpr, one_conj, or_conj, IsConj, one_neg, and_neg, IsNeg, not_neg, one_pred, IsPred, one_sum, compared, is_null, is_not_null, IsSum, one_term, add_term, IsTerm, one_fact, times_fact, IsFact, minus_fact, one_prim, IsPrim, number, text, true_word, false_word, column, one_agg, bracket, IsAgg, count_all, aggregate}
-use Rattle.sql_parser.proofs.Steps.{no_some, some_same}
+use Rattle.sql_expressions.specs.Operators.{aggregates}
+use Rattle.sql_expressions.specs.Grammar.{IsColumn, plain, qualified, IsExpr, one_conj, or_conj, IsConj, one_neg, and_neg, IsNeg, not_neg, one_pred, IsPred, one_sum, compared, is_null, is_not_null, IsSum, one_term, add_term, IsTerm, one_fact, times_fact, IsFact, minus_fact, one_prim, IsPrim, number, text, true_word, false_word, column, one_agg, bracket, IsAgg, count_all, aggregate}
+use Rattle.sql_parser.specs.Grammar.{is_column, of_column, column_layer, measure_layer}
+use Rattle.sql_expressions.proofs.Steps.{no_some, some_same}
 
 -- a part spelled by these tokens that is the same, places aside
 pub record Respelled {A : Type 0} (Part : ℕ → List Token → A → Type 0) (plain : A → A) (p : ℕ) (ts : List Token) (x : A) : Type 0 where

@@ -18,6 +18,7 @@ use Rattle.sql_tree.specs.declared.select.Items.{Items}
 use Rattle.sql_tree.specs.declared.select.Items.TheVariants.{Star, Listed}
 use Rattle.sql_tree.specs.declared.select.Cond.{Cond}
 use Rattle.sql_tree.specs.declared.select.Cond.TheVariants.{On, Using}
+use Rattle.sql_tree.specs.declared.select.UsingName.{UsingName}
 use Rattle.sql_tree.specs.declared.select.How.{How}
 use Rattle.sql_tree.specs.declared.select.How.TheVariants as how
 use Rattle.sql_tree.specs.declared.select.FromEntry.{FromEntry}
@@ -25,9 +26,9 @@ use Rattle.sql_tree.specs.declared.select.KeyBy.{KeyBy}
 use Rattle.sql_tree.specs.declared.select.OrderKey.{OrderKey}
 use Rattle.sql_tree.specs.declared.select.Select.{Select}
 use Rattle.sql_printer.specs.Printing as printing
-use Rattle.sql_printer.specs.Printing.{Tokens, listed, dotted, column_tokens, table_tokens, name_tokens, tree_tokens, optional, item_tokens, items_tokens, cond_tokens, alias_tokens, entry_tokens, word_if, by_tokens, nulls_tokens, key_tokens, select_tokens}
-use Rattle.sql_tree.specs.Same.{placeless_tree, placeless_item, placeless_items, placeless_cond, placeless_entry, placeless_key, placeless_select}
-use Rattle.sql_parser.specs.Grammar.{Separated, last, comma, IsTable, plain_table, qualified_table, IsAlias, no_alias, as_alias, IsItem, item, AreItems, star, items, IsEntry, entry, name, IsCond, on, using, IsJoin, comma_entry, cross_join, join, inner_join, left_join, left_outer_join, AreJoins, no_joins, joins, IsClause, no_clause, clause, IsColumnAt, AreGroups, no_groups, groups, IsKeyBy, by_number, by_column, IsDirection, no_direction, desc, IsNulls, no_nulls, nulls_first, nulls_last, IsKey, key, AreKeys, no_keys, keys, IsDistinct, all_rows, distinct, IsFrom, from, IsSelect, select}
+use Rattle.sql_printer.specs.Printing.{Tokens, listed, dotted, column_tokens, table_tokens, using_tokens, tree_tokens, optional, item_tokens, items_tokens, cond_tokens, alias_tokens, entry_tokens, word_if, by_tokens, nulls_tokens, key_tokens, select_tokens}
+use Rattle.sql_tree.specs.Same.{placeless_tree, placeless_item, placeless_items, placeless_using, placeless_cond, placeless_entry, placeless_key, placeless_select}
+use Rattle.sql_parser.specs.Grammar.{Separated, last, comma, IsTable, plain_table, qualified_table, IsAlias, no_alias, as_alias, IsItem, item, AreItems, star, items, IsEntry, entry, IsUsingName, using_name, IsCond, on, using, IsJoin, comma_entry, cross_join, join, inner_join, left_join, left_outer_join, AreJoins, no_joins, joins, IsClause, no_clause, clause, IsColumnAt, AreGroups, no_groups, groups, IsKeyBy, by_number, by_column, IsDirection, no_direction, desc, IsNulls, no_nulls, nulls_first, nulls_last, IsKey, key, AreKeys, no_keys, keys, IsDistinct, all_rows, distinct, IsFrom, from, IsSelect, select}
 use Rattle.sql_parser.proofs.Again.{Respelled, expr_respelled, column_spelled}
 
 -- ---- lists
@@ -105,9 +106,14 @@ items_again : {p : ℕ} {ts : List Token} {x : Items} → AreItems p ts x → (q
 items_again star q = record { value = Star; spelled = star; same = refl }
 items_again (items d) q = let r = listed_again placeless_item item_tokens item_again d q in record { value = Listed r.value; spelled = items r.spelled; same = ap Listed r.same }
 
+using_again : (p : ℕ) (ts : List Token) (x : UsingName) → IsUsingName p ts x → (q : ℕ) → Respelled IsUsingName placeless_using q (using_tokens x) x
+using_again p ts x (using_name {n = n}) q = record { value = record { place = q; name = n }; spelled = using_name; same = refl }
+
 cond_again : {p : ℕ} {ts : List Token} {c : Cond} → IsCond p ts c → (q : ℕ) → Respelled IsCond placeless_cond q (cond_tokens c) c
 cond_again (on {p = p} d) q = let r = expr_respelled (p + 1) d (q + 1) in record { value = On r.value; spelled = on r.spelled; same = ap On r.same }
-cond_again (using {ns = ns} d) q = record { value = Using ns; spelled = using (listed_spelled name_tokens (λ p ts n e q. name) d (q + 2)); same = refl }
+cond_again (using d) q =
+    let r = listed_again placeless_using using_tokens using_again d (q + 2) in
+    record { value = Using r.value; spelled = using r.spelled; same = ap Using r.same }
 
 -- ---- FROM
 

@@ -7,13 +7,14 @@ use Rattle.sql_text.specs.declared.token.Reserved.TheVariants as w
 use Rattle.sql_text.specs.declared.token.Symbol.{Symbol as Sign}
 use Rattle.sql_text.specs.declared.token.Symbol.TheVariants as s
 use Rattle.sql_tree.specs.declared.select.TableName.{TableName}
-use Rattle.sql_parser.specs.Input.{Input, Reader, and_then, next, name, begins, is_name, is_word, is_symbol, same_word, same_symbol, sees_name, sees_word, sees_symbol, after_word, after_symbol, by_token}
+use Rattle.sql_tree.specs.declared.select.UsingName.{UsingName}
+use Rattle.sql_expressions.specs.Input.{Input, Reader, and_then, next, name, begins, is_name, is_word, is_symbol, same_word, same_symbol, sees_name, sees_word, sees_symbol, after_word, after_symbol, by_token}
 use Rattle.sql_parser.specs.ReadingList.{separated_from, separated}
 use Rattle.sql_parser.specs.ReadingList as reading
-use Rattle.sql_parser.specs.Grammar.{Separated, last, comma, IsTable, plain_table, qualified_table, IsAlias, no_alias, alias, as_alias, IsName}
+use Rattle.sql_parser.specs.Grammar.{Separated, last, comma, IsTable, plain_table, qualified_table, IsAlias, no_alias, alias, as_alias, IsUsingName}
 use Rattle.sql_parser.specs.Grammar as grammar
-use Rattle.sql_parser.proofs.Steps.{at, not_same}
-use Rattle.sql_parser.proofs.Follow.{first_binds}
+use Rattle.sql_expressions.proofs.Steps.{at, not_same}
+use Rattle.sql_expressions.proofs.Follow.{first_binds}
 
 -- ---- how much later than this a token may come in a statement
 abbrev pub word_stage : Reserved → ℕ
@@ -203,6 +204,7 @@ alias-reads no_alias p rest h = let none : p ≡ p + 0 = omega arith in rw (past
 alias-reads (alias {n = n}) p rest h = refl
 alias-reads (as_alias {n = n}) p rest h = let end : p + 1 + 1 ≡ p + 2 = omega arith in ap (λ q. Some (Some n, at q rest)) end
 
-pub name-reads : (p : ℕ) (ts : List Token) (n : List ℕ) → IsName p ts n → (rest : List Token) → name (at p (ts ++ rest)) ≡ Some (n, at (p + length ts) rest)
-unfolding name by_token next
-name-reads p ts n (grammar.name) rest = refl
+pub using_name-reads : (p : ℕ) (ts : List Token) (n : UsingName) → IsUsingName p ts n → (rest : List Token)
+    → reading.using_name (at p (ts ++ rest)) ≡ Some (n, at (p + length ts) rest)
+unfolding reading.using_name name by_token next
+using_name-reads p ts n (grammar.using_name) rest = refl

@@ -11,6 +11,7 @@ use Rattle.sql_tree.specs.declared.tree.ColumnName.{ColumnName}
 use Rattle.sql_tree.specs.declared.select.Item.{Item}
 use Rattle.sql_tree.specs.declared.select.Items.{Items}
 use Rattle.sql_tree.specs.declared.select.Cond.{Cond}
+use Rattle.sql_tree.specs.declared.select.UsingName.{UsingName}
 use Rattle.sql_tree.specs.declared.select.Cond.TheVariants.{On, Using}
 use Rattle.sql_tree.specs.declared.select.How.TheVariants as how
 use Rattle.sql_tree.specs.declared.select.FromEntry.{FromEntry}
@@ -19,17 +20,18 @@ use Rattle.sql_tree.specs.declared.select.OrderKey.{OrderKey}
 use Rattle.sql_tree.specs.declared.select.Select.{Select}
 use Rattle.sql_parser.specs.declared.select.JoinKind.{JoinKind}
 use Rattle.sql_parser.specs.declared.select.JoinKind.TheVariants as kind
-use Rattle.sql_parser.specs.Input.{Input, next, name, number, begins, is_word, same_word, same_symbol, sees_word, sees_symbol, sees_number, after_word, after_symbol, expect_word, expect_symbol, by_token}
-use Rattle.sql_parser.specs.Reading.{column, expression}
-use Rattle.sql_parser.specs.ReadingList.{separated}
+use Rattle.sql_expressions.specs.Input.{Input, next, number, begins, is_word, same_word, same_symbol, sees_word, sees_symbol, sees_number, after_word, after_symbol, expect_word, expect_symbol, by_token}
+use Rattle.sql_expressions.specs.Reading.{column, expression}
+use Rattle.sql_parser.specs.ReadingList.{separated, using_name}
 use Rattle.sql_parser.specs.ReadingSelect as reading
 use Rattle.sql_parser.specs.Grammar as grammar
-use Rattle.sql_parser.specs.Grammar.{IsColumn, plain, qualified, IsExpr, Separated, last, comma, IsTable, IsAlias, no_alias, as_alias, IsItem, item, AreItems, star, items, IsEntry, entry, IsName, IsCond, on, using, IsJoin, comma_entry, cross_join, join, inner_join, left_join, left_outer_join, AreJoins, no_joins, joins, IsClause, no_clause, clause, IsColumnAt, AreGroups, no_groups, groups, IsKeyBy, by_number, by_column, IsDirection, no_direction, asc, desc, IsNulls, no_nulls, nulls_first, nulls_last, IsKey, key, AreKeys, no_keys, keys, IsDistinct, all_rows, distinct, IsFrom, from, IsSelect, select}
-use Rattle.sql_parser.proofs.Steps.{at, same_self}
-use Rattle.sql_parser.proofs.Room.{Room, room-left, room-tail, room-behind}
-use Rattle.sql_parser.proofs.Follow.{Opens, expr-opens, before, no_star, no_distinct}
-use Rattle.sql_parser.proofs.Complete.{expr-reads, column-reads}
-use Rattle.sql_parser.proofs.CompleteList.{word_stage, first_stage, past_expression, past_column, past_word, separated-reads, table-reads, alias-reads, name-reads}
+use Rattle.sql_expressions.specs.Grammar.{plain, qualified, IsExpr}
+use Rattle.sql_parser.specs.Grammar.{Separated, last, comma, IsTable, IsAlias, no_alias, as_alias, IsItem, item, AreItems, star, items, IsEntry, entry, IsUsingName, IsCond, on, using, IsJoin, comma_entry, cross_join, join, inner_join, left_join, left_outer_join, AreJoins, no_joins, joins, IsClause, no_clause, clause, IsColumnAt, AreGroups, no_groups, groups, IsKeyBy, by_number, by_column, IsDirection, no_direction, asc, desc, IsNulls, no_nulls, nulls_first, nulls_last, IsKey, key, AreKeys, no_keys, keys, IsDistinct, all_rows, distinct, IsFrom, from, IsSelect, select}
+use Rattle.sql_expressions.proofs.Steps.{at, same_self}
+use Rattle.sql_expressions.proofs.Room.{Room, room-left, room-tail, room-behind}
+use Rattle.sql_expressions.proofs.Follow.{Opens, expr-opens, before, no_star, no_distinct}
+use Rattle.sql_expressions.proofs.Complete.{expr-reads, column-reads}
+use Rattle.sql_parser.proofs.CompleteList.{word_stage, first_stage, past_expression, past_column, past_word, separated-reads, table-reads, alias-reads, using_name-reads}
 
 -- ---- what a part begins with
 
@@ -111,12 +113,12 @@ pub columns-read : {p : ℕ} {ts : List Token} {cs : List ColumnName} → Separa
 columns-read d rest h =
     separated-reads column IsColumnAt Any (λ ts us g. tt) (λ ts us g. tt) 30 (omega arith) (λ p ts c d g rest h. column_at-reads p ts c d rest h) d tt rest h
 
-names-read : {p : ℕ} {ts : List Token} {ns : List (List ℕ)} → Separated IsName p ts ns → (rest : List Token) → first_stage rest < 9
-    → separated name (at p (ts ++ rest)) ≡ Some (ns, at (p + length ts) rest)
+names-read : {p : ℕ} {ts : List Token} {ns : List UsingName} → Separated IsUsingName p ts ns → (rest : List Token) → first_stage rest < 9
+    → separated using_name (at p (ts ++ rest)) ≡ Some (ns, at (p + length ts) rest)
 names-read d rest h =
-    separated-reads name IsName Any (λ ts us g. tt) (λ ts us g. tt) 30 (omega arith) (λ p ts n d g rest h. name-reads p ts n d rest) d tt rest h
+    separated-reads using_name IsUsingName Any (λ ts us g. tt) (λ ts us g. tt) 30 (omega arith) (λ p ts n d g rest h. using_name-reads p ts n d rest) d tt rest h
 
-using-reads : (p : ℕ) {ts : List Token} {ns : List (List ℕ)} → Separated IsName (p + 2) ts ns → (rest : List Token)
+using-reads : (p : ℕ) {ts : List Token} {ns : List UsingName} → Separated IsUsingName (p + 2) ts ns → (rest : List Token)
     → reading.using (at p (Word w.Using ∷ Symbol s.Open ∷ ts ++ (Symbol s.Close ∷ rest))) ≡ Some (Using ns, at (p + 2 + length ts + 1) rest)
 unfolding reading.using expect_word expect_symbol sees_word sees_symbol same_word same_symbol next
 using-reads p {ts = ts} {ns = ns} d rest =

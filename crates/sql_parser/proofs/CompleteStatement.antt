@@ -15,16 +15,16 @@ use Rattle.sql_tree.specs.declared.select.Select.{Select}
 use Rattle.sql_tree.specs.declared.statement.TileText.{TileText}
 use Rattle.sql_tree.specs.declared.statement.Statement.{Statement}
 use Rattle.sql_tree.specs.declared.statement.Statement.TheVariants as statement
-use Rattle.sql_parser.specs.Input.{and_then, next, number, begins, is_word, is_symbol, same_word, same_symbol, sees_word, sees_symbol, after_word, after_symbol, expect_word, expect_symbol, by_token}
-use Rattle.sql_parser.specs.Reading.{aggregation}
+use Rattle.sql_expressions.specs.Input.{and_then, next, number, begins, is_word, is_symbol, same_word, same_symbol, sees_word, sees_symbol, after_word, after_symbol, expect_word, expect_symbol, by_token}
+use Rattle.sql_expressions.specs.Reading.{aggregation}
 use Rattle.sql_parser.specs.ReadingList.{separated}
 use Rattle.sql_parser.specs.ReadingStatement as reading
 use Rattle.sql_parser.specs.Grammar as grammar
-use Rattle.sql_parser.specs.Grammar.{of_column, IsColumnAt, IsColumn, Separated, last, comma, IsTable, IsSelect, IsLit, number_lit, minus_number_lit, text_lit, true_lit, false_lit, null_lit, IsRow, row, AreDims, no_dims, dims, IsMeasure, measure, AreMeasures, no_measures, measures, IsTile, tile, IsBody, query, explain_plan, explain_memo, insert, refresh, create_tile, drop_tile, choose_tiles, Spells, body, ended}
-use Rattle.sql_parser.proofs.Steps.{at}
-use Rattle.sql_parser.proofs.Room.{Room, room-left, room-tail, room-behind}
-use Rattle.sql_parser.proofs.Follow.{Opens, before, column-opens, first_opens}
-use Rattle.sql_parser.proofs.Complete.{aggregation-reads}
+use Rattle.sql_parser.specs.Grammar.{of_column, IsColumnAt, Separated, last, comma, IsTable, IsSelect, IsLit, number_lit, minus_number_lit, text_lit, true_lit, false_lit, null_lit, IsRow, row, AreDims, no_dims, dims, IsMeasure, measure, AreMeasures, no_measures, measures, IsTile, tile, IsBody, query, explain_plan, explain_memo, insert, refresh, create_tile, drop_tile, choose_tiles, Spells, body, ended}
+use Rattle.sql_expressions.proofs.Steps.{at}
+use Rattle.sql_expressions.proofs.Room.{Room, room-left, room-tail, room-behind}
+use Rattle.sql_expressions.proofs.Follow.{Opens, before, column-opens, first_opens}
+use Rattle.sql_expressions.proofs.Complete.{aggregation-reads}
 use Rattle.sql_parser.proofs.CompleteList.{first_stage, past_word, separated-reads, table-reads}
 use Rattle.sql_parser.proofs.CompleteSelect.{columns-read, select-reads, SelectReads}
 

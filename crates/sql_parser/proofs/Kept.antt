@@ -18,11 +18,11 @@ use Rattle.sql_tree.specs.declared.tree.ColumnName.{ColumnName}
 use Rattle.sql_text.specs.Tokens.{IsToken}
 use Rattle.sql_printer.proofs.Writes.{printed_binary}
 use Rattle.sql_printer.specs.Printing.{Printed, printed_tree, tree_tokens, at_least, in_brackets, column_tokens, op_level, left_level, op_token, binary_tokens, null_test_tokens, call_tokens}
-use Rattle.sql_parser.specs.Operators.{compares, adds, multiplies}
-use Rattle.sql_parser.specs.Limits.{opened, most_open, operators, is_operator_word}
-use Rattle.sql_parser.specs.Grammar.{IsColumn, plain, qualified, IsExpr, one_conj, or_conj, IsConj, one_neg, and_neg, IsNeg, not_neg, one_pred, IsPred, one_sum, compared, is_null, is_not_null, IsSum, one_term, add_term, IsTerm, one_fact, times_fact, IsFact, minus_fact, one_prim, IsPrim, number, text, true_word, false_word, column, one_agg, bracket, IsAgg, count_all, aggregate}
-use Rattle.sql_parser.proofs.Steps.{no_some, some_same}
-use Rattle.sql_parser.proofs.Room.{operators-append, most_open-low, Balanced, none-balanced, one-balanced, append-balanced, bracket-balanced, column-balanced, expr-balanced}
+use Rattle.sql_expressions.specs.Operators.{compares, adds, multiplies}
+use Rattle.sql_expressions.specs.Limits.{opened, most_open, operators, is_operator_word}
+use Rattle.sql_expressions.specs.Grammar.{IsColumn, plain, qualified, IsExpr, one_conj, or_conj, IsConj, one_neg, and_neg, IsNeg, not_neg, one_pred, IsPred, one_sum, compared, is_null, is_not_null, IsSum, one_term, add_term, IsTerm, one_fact, times_fact, IsFact, minus_fact, one_prim, IsPrim, number, text, true_word, false_word, column, one_agg, bracket, IsAgg, count_all, aggregate}
+use Rattle.sql_expressions.proofs.Steps.{no_some, some_same}
+use Rattle.sql_expressions.proofs.Room.{operators-append, most_open-low, Balanced, none-balanced, one-balanced, append-balanced, bracket-balanced, column-balanced, expr-balanced}
 use Rattle.sql_parser.proofs.Again.{printed_column, printed_literal, printed_negate, printed_not, printed_null, printed_count, printed_call, agg_word, agg_again, expr_respelled}
 
 -- the second are no worse than the first

@@ -14,14 +14,15 @@ use Rattle.sql_tree.specs.declared.select.TableName.{TableName}
 use Rattle.sql_tree.specs.declared.select.Item.{Item}
 use Rattle.sql_tree.specs.declared.select.Items.{Items}
 use Rattle.sql_tree.specs.declared.select.Cond.{Cond}
+use Rattle.sql_tree.specs.declared.select.UsingName.{UsingName}
 use Rattle.sql_tree.specs.declared.select.FromEntry.{FromEntry}
 use Rattle.sql_tree.specs.declared.select.KeyBy.{KeyBy}
 use Rattle.sql_tree.specs.declared.select.OrderKey.{OrderKey}
 use Rattle.sql_tree.specs.declared.select.Select.{Select}
 use Rattle.sql_printer.specs.Printing as printing
-use Rattle.sql_printer.specs.Printing.{Tokens, listed, in_brackets, column_tokens, table_tokens, name_tokens, tree_tokens, optional, item_tokens, items_tokens, cond_tokens, alias_tokens, entry_tokens, word_if, by_tokens, nulls_tokens, key_tokens, select_tokens}
+use Rattle.sql_printer.specs.Printing.{Tokens, listed, in_brackets, column_tokens, table_tokens, using_tokens, tree_tokens, optional, item_tokens, items_tokens, cond_tokens, alias_tokens, entry_tokens, word_if, by_tokens, nulls_tokens, key_tokens, select_tokens}
 use Rattle.sql_parser.specs.Grammar as grammar
-use Rattle.sql_parser.specs.Grammar.{IsColumn, Separated, last, comma, IsTable, plain_table, qualified_table, IsAlias, no_alias, as_alias, IsItem, item, AreItems, star, items, IsEntry, entry, IsName, name, IsCond, on, using, IsJoin, comma_entry, cross_join, join, inner_join, left_join, left_outer_join, AreJoins, no_joins, joins, IsClause, no_clause, clause, IsColumnAt, AreGroups, no_groups, groups, IsKeyBy, by_number, by_column, IsDirection, no_direction, asc, desc, IsNulls, no_nulls, nulls_first, nulls_last, IsKey, key, AreKeys, no_keys, keys, IsDistinct, all_rows, distinct, IsFrom, from, IsSelect, select}
+use Rattle.sql_parser.specs.Grammar.{Separated, last, comma, IsTable, plain_table, qualified_table, IsAlias, no_alias, as_alias, IsItem, item, AreItems, star, items, IsEntry, entry, IsUsingName, using_name, IsCond, on, using, IsJoin, comma_entry, cross_join, join, inner_join, left_join, left_outer_join, AreJoins, no_joins, joins, IsClause, no_clause, clause, IsColumnAt, AreGroups, no_groups, groups, IsKeyBy, by_number, by_column, IsDirection, no_direction, asc, desc, IsNulls, no_nulls, nulls_first, nulls_last, IsKey, key, AreKeys, no_keys, keys, IsDistinct, all_rows, distinct, IsFrom, from, IsSelect, select}
 use Rattle.sql_parser.proofs.AgainSelect.{listed_comma, clause_some}
 use Rattle.sql_parser.proofs.Kept.{NoWorse, nothing, token_kept, beside, behind_token, behind_word, left_out, put_in, in_both, column_kept, expr_kept}
 
@@ -81,9 +82,9 @@ items_kept (items d) = listed_kept item_tokens item_kept d
 
 cond_kept : {p : ℕ} {ts : List Token} {c : Cond} → IsCond p ts c → NoWorse ts (cond_tokens c)
 cond_kept (on d) = behind_word w.On _ _ (expr_kept d)
-cond_kept (using {ts = ts} {ns = ns} d) = behind_word w.Using _ _ (in_both ts (listed name_tokens ns) (listed_kept name_tokens each d)) where
-  each : (p : ℕ) (ts : List Token) (n : List ℕ) → IsName p ts n → NoWorse ts (name_tokens n)
-  each p ts n name = name_kept n
+cond_kept (using {ts = ts} {ns = ns} d) = behind_word w.Using _ _ (in_both ts (listed using_tokens ns) (listed_kept using_tokens each d)) where
+  each : (p : ℕ) (ts : List Token) (x : UsingName) → IsUsingName p ts x → NoWorse ts (using_tokens x)
+  each p ts x (using_name {n = n}) = name_kept n
 
 -- ---- FROM
 

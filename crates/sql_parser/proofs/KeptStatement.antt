@@ -16,7 +16,7 @@ use Rattle.sql_printer.proofs.Alike.{printed_alike}
 use Rattle.sql_text.proofs.Reading.{tokens_fit}
 use Rattle.sql_printer.proofs.Written.{text_has_tokens}
 use Rattle.sql_printer.specs.Writing.{text_of}
-use Rattle.sql_parser.specs.Limits.{is_insert}
+use Rattle.sql_expressions.specs.Limits.{is_insert}
 use Rattle.sql_parser.specs.Answers.{IsWithinLimits, IsTextOf}
 use Rattle.sql_parser.specs.Grammar.{IsLit, number_lit, minus_number_lit, text_lit, true_lit, false_lit, null_lit, IsRow, row, AreDims, no_dims, dims, IsMeasure, measure, AreMeasures, no_measures, measures, IsTile, tile, select, IsBody, query, explain_plan, explain_memo, insert, refresh, create_tile, drop_tile, choose_tiles, Spells, body, ended}
 use Rattle.sql_parser.proofs.AgainStatement.{spelled_again}

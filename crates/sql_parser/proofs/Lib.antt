@@ -1,9 +1,3 @@
-pub mod Turns
-pub mod Steps
-pub mod Sound
-pub mod Room
-pub mod Follow
-pub mod Complete
 pub mod SoundList
 pub mod CompleteList
 pub mod SoundSelect

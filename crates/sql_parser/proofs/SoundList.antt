@@ -5,12 +5,13 @@ use Rattle.sql_text.specs.declared.token.Token.TheVariants.{Name, Word, Symbol}
 use Rattle.sql_text.specs.declared.token.Reserved.TheVariants as w
 use Rattle.sql_text.specs.declared.token.Symbol.TheVariants as s
 use Rattle.sql_tree.specs.declared.select.TableName.{TableName}
-use Rattle.sql_parser.specs.Input.{Input, Reader, ◌>>=◌, pure, next, name, sees_name}
+use Rattle.sql_tree.specs.declared.select.UsingName.{UsingName}
+use Rattle.sql_expressions.specs.Input.{Input, Reader, ◌>>=◌, pure, next, name, sees_name}
 use Rattle.sql_parser.specs.ReadingList.{separated_from, separated}
 use Rattle.sql_parser.specs.ReadingList as reading
-use Rattle.sql_parser.specs.Grammar.{Separated, last, comma, IsTable, plain_table, qualified_table, IsAlias, no_alias, alias, as_alias, IsName}
+use Rattle.sql_parser.specs.Grammar.{Separated, last, comma, IsTable, plain_table, qualified_table, IsAlias, no_alias, alias, as_alias, IsUsingName}
 use Rattle.sql_parser.specs.Grammar as grammar
-use Rattle.sql_parser.proofs.Steps.{some_same, bind_some, Took, ate, left_it, symbol_eaten, word_eaten, name_found}
+use Rattle.sql_expressions.proofs.Steps.{some_same, bind_some, Took, ate, left_it, symbol_eaten, word_eaten, name_found}
 
 -- ---- what was taken, one after another
 
@@ -144,5 +145,9 @@ alias-sound i r e = elim (word_eaten w.As i) [
   | left_it sees after ↦ alias_if i r (sees_name i) (rw (sees, after) at e)
 ]
 
-pub name-sound : (i : Input) (r : List ℕ × Input) → name i ≡ Some r → Took IsName i r.0 r.1
-name-sound i r e = let found = name_found i r e in alone (Name r.0) IsName i r.1 r.0 grammar.name found.0 found.1
+pub using_name-sound : (i : Input) (r : UsingName × Input) → reading.using_name i ≡ Some r → Took IsUsingName i r.0 r.1
+unfolding reading.using_name
+using_name-sound i r e =
+    let a = bind_some (name i) _ r e in
+    let found = name_found i a.0 a.1 in
+    subst (λ r. Took IsUsingName i r.0 r.1) (some_same a.2) (alone (Name a.0.0) IsUsingName i a.0.1 _ grammar.using_name found.0 found.1)

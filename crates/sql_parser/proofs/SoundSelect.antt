@@ -23,16 +23,17 @@ use Rattle.sql_tree.specs.declared.select.OrderKey.{OrderKey}
 use Rattle.sql_tree.specs.declared.select.Select.{Select}
 use Rattle.sql_parser.specs.declared.select.JoinKind.{JoinKind}
 use Rattle.sql_parser.specs.declared.select.JoinKind.TheVariants as kind
-use Rattle.sql_parser.specs.declared.expression.Part.TheVariants as part
-use Rattle.sql_parser.specs.Input.{Input, ◌>>=◌, pure, next, name, number, sees_number, expect_word, expect_symbol, sees_word, after_word}
-use Rattle.sql_parser.specs.Reading.{column, expression}
-use Rattle.sql_parser.specs.ReadingList.{separated, table, alias}
+use Rattle.sql_expressions.specs.declared.expression.Part.TheVariants as part
+use Rattle.sql_expressions.specs.Input.{Input, ◌>>=◌, pure, next, number, sees_number, expect_word, expect_symbol, sees_word, after_word}
+use Rattle.sql_expressions.specs.Reading.{column, expression}
+use Rattle.sql_parser.specs.ReadingList.{separated, table, using_name, alias}
 use Rattle.sql_parser.specs.ReadingSelect as reading
 use Rattle.sql_parser.specs.Grammar as grammar
-use Rattle.sql_parser.specs.Grammar.{IsColumn, IsExpr, Separated, IsTable, IsAlias, IsItem, AreItems, IsEntry, IsName, IsCond, IsJoin, AreJoins, IsClause, IsColumnAt, AreGroups, IsKeyBy, IsDirection, IsNulls, IsKey, AreKeys, IsDistinct, IsFrom, IsSelect}
-use Rattle.sql_parser.proofs.Steps.{at, some_same, bind_some, Took, ate, left_it, symbol_eaten, word_eaten, number_found, word_expected, symbol_expected}
-use Rattle.sql_parser.proofs.Sound.{column-sound, reads_part-sound}
-use Rattle.sql_parser.proofs.SoundList.{followed, behind, alone, nothing, seen_as, separated-sound, TableAt, AliasAt, table-sound, alias-sound, name-sound}
+use Rattle.sql_expressions.specs.Grammar.{IsExpr}
+use Rattle.sql_parser.specs.Grammar.{Separated, IsTable, IsAlias, IsItem, AreItems, IsEntry, IsUsingName, IsCond, IsJoin, AreJoins, IsClause, IsColumnAt, AreGroups, IsKeyBy, IsDirection, IsNulls, IsKey, AreKeys, IsDistinct, IsFrom, IsSelect}
+use Rattle.sql_expressions.proofs.Steps.{at, some_same, bind_some, Took, ate, left_it, symbol_eaten, word_eaten, number_found, word_expected, symbol_expected}
+use Rattle.sql_expressions.proofs.Sound.{column-sound, reads_part-sound}
+use Rattle.sql_parser.proofs.SoundList.{followed, behind, alone, nothing, seen_as, separated-sound, TableAt, AliasAt, table-sound, alias-sound, using_name-sound}
 
 pub expression-sound : (n : ℕ) (i : Input) (r : Tree × Input) → expression n i ≡ Some r → Took IsExpr i r.0 r.1
 unfolding expression
@@ -67,8 +68,8 @@ using-sound i r e =
     let first = word_expected w.Using i.place i.left a.0 a.1 in
     let b = bind_some (expect_symbol s.Open a.0.1) _ r a.2 in
     let second = symbol_expected s.Open a.0.1.place a.0.1.left b.0 b.1 in
-    let c = bind_some (separated name b.0.1) _ r b.2 in
-    let names = separated-sound name IsName name-sound b.0.1 c.0 c.1 in
+    let c = bind_some (separated using_name b.0.1) _ r b.2 in
+    let names = separated-sound using_name IsUsingName using_name-sound b.0.1 c.0 c.1 in
     let d = bind_some (expect_symbol s.Close c.0.1) _ r c.2 in
     let end = symbol_expected s.Close c.0.1.place c.0.1.left d.0 d.1 in
     let start : b.0.1.place ≡ i.place + 2 = omega arith in
@@ -76,7 +77,7 @@ using-sound i r e =
       tokens = Word w.Using ∷ Symbol s.Open ∷ names.tokens ++ Symbol s.Close ∷ [];
       split = first.0 ∙ ap (λ l. Word w.Using ∷ l) (second.0 ∙ ap (λ l. Symbol s.Open ∷ l) (names.split ∙ ap (λ l. names.tokens ++ l) end.0 ∙ sym (append_assoc names.tokens (Symbol s.Close ∷ []) d.0.1.left)));
       place = simp length-append (omega (arith, names.place, end.1));
-      spelled = grammar.using (subst (λ p. Separated IsName p names.tokens c.0.0) start names.spelled);
+      spelled = grammar.using (subst (λ p. Separated IsUsingName p names.tokens c.0.0) start names.spelled);
     })
 
 cond-sound : (n : ℕ) (i : Input) (r : Cond × Input) → reading.cond n i ≡ Some r → Took IsCond i r.0 r.1

@@ -15,16 +15,17 @@ use Rattle.sql_tree.specs.declared.select.Select.{Select}
 use Rattle.sql_tree.specs.declared.statement.TileText.{TileText}
 use Rattle.sql_tree.specs.declared.statement.Statement.{Statement}
 use Rattle.sql_tree.specs.declared.statement.Statement.TheVariants as statement
-use Rattle.sql_parser.specs.declared.expression.Part.TheVariants as part
-use Rattle.sql_parser.specs.Input.{Input, pure, next, number, by_token, expect_word, expect_symbol, after_symbol}
-use Rattle.sql_parser.specs.Reading.{column, aggregation}
+use Rattle.sql_expressions.specs.declared.expression.Part.TheVariants as part
+use Rattle.sql_expressions.specs.Input.{Input, pure, next, number, by_token, expect_word, expect_symbol, after_symbol}
+use Rattle.sql_expressions.specs.Reading.{column, aggregation}
 use Rattle.sql_parser.specs.ReadingList.{separated, table}
 use Rattle.sql_parser.specs.ReadingSelect.{select}
 use Rattle.sql_parser.specs.ReadingStatement as reading
 use Rattle.sql_parser.specs.Grammar as grammar
-use Rattle.sql_parser.specs.Grammar.{of_column, IsColumnAt, IsAgg, Separated, IsTable, IsSelect, IsLit, IsRow, AreDims, IsMeasure, AreMeasures, IsTile, IsBody, Spells}
-use Rattle.sql_parser.proofs.Steps.{at, no_some, some_same, bind_some, guard_reader, Took, ate, left_it, symbol_eaten, word_eaten, number_found, word_expected, symbol_expected}
-use Rattle.sql_parser.proofs.Sound.{reads_part-sound}
+use Rattle.sql_expressions.specs.Grammar.{IsAgg}
+use Rattle.sql_parser.specs.Grammar.{of_column, IsColumnAt, Separated, IsTable, IsSelect, IsLit, IsRow, AreDims, IsMeasure, AreMeasures, IsTile, IsBody, Spells}
+use Rattle.sql_expressions.proofs.Steps.{at, no_some, some_same, bind_some, guard_reader, Took, ate, left_it, symbol_eaten, word_eaten, number_found, word_expected, symbol_expected}
+use Rattle.sql_expressions.proofs.Sound.{reads_part-sound}
 use Rattle.sql_parser.proofs.SoundList.{behind, closed, alone, nothing, seen_as, separated-sound, TableAt, table-sound}
 use Rattle.sql_parser.proofs.SoundSelect.{column_at-sound, select-sound}
 

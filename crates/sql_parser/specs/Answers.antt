@@ -1,22 +1,24 @@
 -- What the parser answers, where each fault comes, and when a text is one of a statement.
 use Rattle.std.specs.Prelude.{◌≡◌, ℕ, ◌<◌, ◌≤◌, false, List, Option, Some, None, Result, Ok, Err}
+use Rattle.cal_value.specs.declared.limits.TheConstants.{BRACKET_LIMIT, OPERATOR_LIMIT}
 use Rattle.sql_text.specs.declared.token.Token.{Token}
 use Rattle.sql_tree.specs.declared.statement.Statement.{Statement}
 use Rattle.sql_tree.specs.Same.{IsSame}
 use Rattle.sql_text.specs.Tokens.{HasTokens}
-use Rattle.sql_parser.specs.declared.fault.ParseFault.{ParseFault}
-use Rattle.sql_parser.specs.declared.fault.ParseFault.TheVariants.{TooDeep, TooManyOperators, NotSql, NoMemory}
-use Rattle.sql_parser.specs.Limits.{most_open, operators, is_insert}
+use Rattle.sql_expressions.specs.declared.fault.ParseFault.{ParseFault}
+use Rattle.sql_expressions.specs.declared.fault.ParseFault.TheVariants.{TooDeep, TooManyOperators, NotSql, NoMemory}
+use Rattle.sql_expressions.specs.Limits.{most_open, operators, is_insert}
 use Rattle.sql_parser.specs.Grammar.{Spells}
 
--- at most 64 brackets are open at any token, and unless the first token is INSERT there are at most 256 operators
+-- at most BRACKET_LIMIT brackets are open at any token, and unless the first token is INSERT there are at most OPERATOR_LIMIT operators
 pub record IsWithinLimits (tokens : List Token) : Type 0 where
-  pub brackets : most_open 0 tokens ≤ 64
-  pub few : is_insert tokens ≡ false → operators tokens ≤ 256
+  pub brackets : most_open 0 tokens ≤ BRACKET_LIMIT
+  pub few : is_insert tokens ≡ false → operators tokens ≤ OPERATOR_LIMIT
 
 abbrev pub IsFaultOf : List Token → ParseFault → Type 0
-IsFaultOf tokens (TooDeep limit) = (limit ≡ 64) × (64 < most_open 0 tokens)
-IsFaultOf tokens (TooManyOperators limit) = (limit ≡ 256) × (most_open 0 tokens ≤ 64) × (is_insert tokens ≡ false) × (256 < operators tokens)
+IsFaultOf tokens (TooDeep limit) = (limit ≡ BRACKET_LIMIT) × (BRACKET_LIMIT < most_open 0 tokens)
+IsFaultOf tokens (TooManyOperators limit) = (limit ≡ OPERATOR_LIMIT)
+    × (most_open 0 tokens ≤ BRACKET_LIMIT) × (is_insert tokens ≡ false) × (OPERATOR_LIMIT < operators tokens)
 IsFaultOf tokens NotSql = IsWithinLimits tokens × ((x : Statement) → Spells tokens x → ⊥)
 IsFaultOf tokens NoMemory = IsWithinLimits tokens
 

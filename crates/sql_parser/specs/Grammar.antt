@@ -1,26 +1,21 @@
--- The grammar. `IsExpr place tokens tree` says that these tokens, the first of which has this place, are an `expr`
--- with this tree; likewise for the other parts. Each part has one constructor for each production.
+-- The grammar of statements, over that of expressions. `IsSelect place tokens select` says that these tokens, the first of which has this
+-- place, are a `select`; likewise for the other parts. Each part has one constructor for each production.
 use Rattle.std.specs.Prelude.{◌≡◌, ℕ, ◌+◌, ◌≤◌, pos, neg_ℤ, Bool, true, false, List, [], ◌∷◌, ◌++◌, length, unwrap_or, Option, Some, None}
 use Rattle.cal_value.specs.declared.value.Value.{Value}
 use Rattle.cal_value.specs.declared.value.Value.TheVariants as value
-use Rattle.cal_value.specs.declared.operator.Op.{Op}
-use Rattle.cal_value.specs.declared.operator.Op.TheVariants as op
-use Rattle.cal_value.specs.declared.operator.Agg.{Agg}
-use Rattle.cal_value.specs.declared.operator.Agg.TheVariants as agg
 use Rattle.sql_text.specs.declared.token.Token.{Token}
 use Rattle.sql_text.specs.declared.token.Token.TheVariants.{Name, Word, Number, Text, Symbol}
 use Rattle.sql_text.specs.declared.token.Reserved.{Reserved}
 use Rattle.sql_text.specs.declared.token.Reserved.TheVariants as w
-use Rattle.sql_text.specs.declared.token.Symbol.{Symbol as Sign}
 use Rattle.sql_text.specs.declared.token.Symbol.TheVariants as s
 use Rattle.sql_tree.specs.declared.tree.Tree.{Tree, out-Tree}
 use Rattle.sql_tree.specs.declared.tree.Tree.TheOpen.{Tree-F}
-use Rattle.sql_tree.specs.declared.tree.Tree.TheVariants.{Column, Literal, Negate, Binary, Not, IsNull, Aggregate}
 use Rattle.sql_tree.specs.declared.tree.ColumnName.{ColumnName}
 use Rattle.sql_tree.specs.declared.select.TableName.{TableName}
 use Rattle.sql_tree.specs.declared.select.Item.{Item}
 use Rattle.sql_tree.specs.declared.select.Items.{Items}
 use Rattle.sql_tree.specs.declared.select.Items.TheVariants.{Star, Listed}
+use Rattle.sql_tree.specs.declared.select.UsingName.{UsingName}
 use Rattle.sql_tree.specs.declared.select.Cond.{Cond}
 use Rattle.sql_tree.specs.declared.select.Cond.TheVariants.{On, Using}
 use Rattle.sql_tree.specs.declared.select.How.{How}
@@ -33,7 +28,7 @@ use Rattle.sql_tree.specs.declared.select.Select.{Select}
 use Rattle.sql_tree.specs.declared.statement.TileText.{TileText}
 use Rattle.sql_tree.specs.declared.statement.Statement.{Statement}
 use Rattle.sql_tree.specs.declared.statement.Statement.TheVariants as statement
-use Rattle.sql_parser.specs.Operators.{compares, adds, multiplies, aggregates}
+use Rattle.sql_expressions.specs.Grammar.{IsColumn, IsExpr, IsAgg}
 
 -- whether a tree is a column
 abbrev pub column_layer : Tree-F Tree → Bool
@@ -51,72 +46,6 @@ measure_layer _ = false
 
 unfoldable pub of_column : Tree → Bool
 of_column t = measure_layer (out-Tree t)
-
--- column = name [. name]
-pub data IsColumn : List Token → ColumnName → Type 0 where
-  plain : {n : List ℕ} → IsColumn (Name n ∷ []) (record { alias = None; name = n })
-  qualified : {a n : List ℕ} → IsColumn (Name a ∷ Symbol s.Dot ∷ Name n ∷ []) (record { alias = Some a; name = n })
-
-mutual
-  -- expr = conj {OR conj}
-  pub data IsExpr : ℕ → List Token → Tree → Type 0 where
-    one_conj : {p : ℕ} {ts : List Token} {t : Tree} → IsConj p ts t → IsExpr p ts t
-    or_conj : {p : ℕ} {ts us : List Token} {l r : Tree} → IsExpr p ts l → IsConj (p + length ts + 1) us r
-        → IsExpr p (ts ++ Word w.Or ∷ us) (Binary (p + length ts) op.Or l r)
-
-  -- conj = neg {AND neg}
-  pub data IsConj : ℕ → List Token → Tree → Type 0 where
-    one_neg : {p : ℕ} {ts : List Token} {t : Tree} → IsNeg p ts t → IsConj p ts t
-    and_neg : {p : ℕ} {ts us : List Token} {l r : Tree} → IsConj p ts l → IsNeg (p + length ts + 1) us r
-        → IsConj p (ts ++ Word w.And ∷ us) (Binary (p + length ts) op.And l r)
-
-  -- neg = NOT neg | pred
-  pub data IsNeg : ℕ → List Token → Tree → Type 0 where
-    not_neg : {p : ℕ} {ts : List Token} {t : Tree} → IsNeg (p + 1) ts t → IsNeg p (Word w.Not ∷ ts) (Not p t)
-    one_pred : {p : ℕ} {ts : List Token} {t : Tree} → IsPred p ts t → IsNeg p ts t
-
-  -- pred = sum [(= | <> | < | <= | > | >=) sum | IS [NOT] NULL]
-  pub data IsPred : ℕ → List Token → Tree → Type 0 where
-    one_sum : {p : ℕ} {ts : List Token} {t : Tree} → IsSum p ts t → IsPred p ts t
-    compared : {p : ℕ} {ts us : List Token} {l r : Tree} (sign : Sign) {o : Op} → IsSum p ts l → compares sign ≡ Some o → IsSum (p + length ts + 1) us r
-        → IsPred p (ts ++ Symbol sign ∷ us) (Binary (p + length ts) o l r)
-    is_null : {p : ℕ} {ts : List Token} {t : Tree} → IsSum p ts t
-        → IsPred p (ts ++ Word w.Is ∷ Word w.Null ∷ []) (IsNull (p + length ts) t)
-    is_not_null : {p : ℕ} {ts : List Token} {t : Tree} → IsSum p ts t
-        → IsPred p (ts ++ Word w.Is ∷ Word w.Not ∷ Word w.Null ∷ []) (Not (p + length ts) (IsNull (p + length ts) t))
-
-  -- sum = term {(+ | -) term}
-  pub data IsSum : ℕ → List Token → Tree → Type 0 where
-    one_term : {p : ℕ} {ts : List Token} {t : Tree} → IsTerm p ts t → IsSum p ts t
-    add_term : {p : ℕ} {ts us : List Token} {l r : Tree} (sign : Sign) {o : Op} → IsSum p ts l → adds sign ≡ Some o → IsTerm (p + length ts + 1) us r
-        → IsSum p (ts ++ Symbol sign ∷ us) (Binary (p + length ts) o l r)
-
-  -- term = fact {(* | /) fact}
-  pub data IsTerm : ℕ → List Token → Tree → Type 0 where
-    one_fact : {p : ℕ} {ts : List Token} {t : Tree} → IsFact p ts t → IsTerm p ts t
-    times_fact : {p : ℕ} {ts us : List Token} {l r : Tree} (sign : Sign) {o : Op} → IsTerm p ts l → multiplies sign ≡ Some o → IsFact (p + length ts + 1) us r
-        → IsTerm p (ts ++ Symbol sign ∷ us) (Binary (p + length ts) o l r)
-
-  -- fact = - fact | prim
-  pub data IsFact : ℕ → List Token → Tree → Type 0 where
-    minus_fact : {p : ℕ} {ts : List Token} {t : Tree} → IsFact (p + 1) ts t → IsFact p (Symbol s.Minus ∷ ts) (Negate p t)
-    one_prim : {p : ℕ} {ts : List Token} {t : Tree} → IsPrim p ts t → IsFact p ts t
-
-  -- prim = number | text | TRUE | FALSE | column | agg | ( expr )
-  pub data IsPrim : ℕ → List Token → Tree → Type 0 where
-    number : {p n : ℕ} → IsPrim p (Number (pos n) ∷ []) (Literal p (value.Int (pos n)))
-    text : {p : ℕ} {t : List ℕ} → IsPrim p (Text t ∷ []) (Literal p (value.Text t))
-    true_word : {p : ℕ} → IsPrim p (Word w.True ∷ []) (Literal p (value.Bool true))
-    false_word : {p : ℕ} → IsPrim p (Word w.False ∷ []) (Literal p (value.Bool false))
-    column : {p : ℕ} {ts : List Token} {c : ColumnName} → IsColumn ts c → IsPrim p ts (Column p c)
-    one_agg : {p : ℕ} {ts : List Token} {t : Tree} → IsAgg p ts t → IsPrim p ts t
-    bracket : {p : ℕ} {ts : List Token} {t : Tree} → IsExpr (p + 1) ts t → IsPrim p (Symbol s.Open ∷ ts ++ Symbol s.Close ∷ []) t
-
-  -- agg = COUNT ( * ) | (COUNT | SUM | MIN | MAX) ( expr )
-  pub data IsAgg : ℕ → List Token → Tree → Type 0 where
-    count_all : {p : ℕ} → IsAgg p (Word w.Count ∷ Symbol s.Open ∷ Symbol s.Star ∷ Symbol s.Close ∷ []) (Aggregate p agg.Count None)
-    aggregate : {p : ℕ} {ts : List Token} {t : Tree} (word : Reserved) {a : Agg} → aggregates word ≡ Some a → IsExpr (p + 2) ts t
-        → IsAgg p (Word word ∷ Symbol s.Open ∷ ts ++ Symbol s.Close ∷ []) (Aggregate p a (Some t))
 
 -- a part, or several with commas between
 pub data Separated {A : Type 0} (Part : ℕ → List Token → A → Type 0) : ℕ → List Token → List A → Type 0 where
@@ -149,13 +78,13 @@ pub data IsEntry (how : How) : List Token → FromEntry → Type 0 where
   entry : {ts us : List Token} {t : TableName} {a : Option (List ℕ)} → IsTable ts t → IsAlias us a
       → IsEntry how (ts ++ us) (record { table = t; alias = unwrap_or a t.name; how = how })
 
-pub data IsName : ℕ → List Token → List ℕ → Type 0 where
-  name : {p : ℕ} {n : List ℕ} → IsName p (Name n ∷ []) n
+pub data IsUsingName : ℕ → List Token → UsingName → Type 0 where
+  using_name : {p : ℕ} {n : List ℕ} → IsUsingName p (Name n ∷ []) (record { place = p; name = n })
 
 -- cond = ON expr | USING ( name {, name} )
 pub data IsCond : ℕ → List Token → Cond → Type 0 where
   on : {p : ℕ} {ts : List Token} {t : Tree} → IsExpr (p + 1) ts t → IsCond p (Word w.On ∷ ts) (On t)
-  using : {p : ℕ} {ts : List Token} {ns : List (List ℕ)} → Separated IsName (p + 2) ts ns
+  using : {p : ℕ} {ts : List Token} {ns : List UsingName} → Separated IsUsingName (p + 2) ts ns
       → IsCond p (Word w.Using ∷ Symbol s.Open ∷ ts ++ Symbol s.Close ∷ []) (Using ns)
 
 -- join = , entry | CROSS JOIN entry | [INNER] JOIN entry cond | LEFT [OUTER] JOIN entry cond

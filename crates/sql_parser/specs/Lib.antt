@@ -1,10 +1,5 @@
-pub mod Input
-pub mod Operators
-pub mod Reading
-pub mod Nests
+pub mod Answers
 pub mod Grammar
-pub mod Limits
 pub mod ReadingList
 pub mod ReadingSelect
 pub mod ReadingStatement
-pub mod Answers

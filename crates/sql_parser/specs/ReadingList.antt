@@ -3,7 +3,8 @@ use Rattle.std.specs.Prelude.{ℕ, zero, suc, if◌then◌else◌, ◌||◌, Lis
 use Rattle.sql_text.specs.declared.token.Reserved.TheVariants as w
 use Rattle.sql_text.specs.declared.token.Symbol.TheVariants as s
 use Rattle.sql_tree.specs.declared.select.TableName.{TableName}
-use Rattle.sql_parser.specs.Input.{Reader, ◌>>=◌, pure, look, sees_name, eat_word, eat_symbol, name}
+use Rattle.sql_tree.specs.declared.select.UsingName.{UsingName}
+use Rattle.sql_expressions.specs.Input.{Reader, ◌>>=◌, pure, here, look, sees_name, eat_word, eat_symbol, name}
 
 -- The number bounds the commas.
 unfoldable pub separated_from : {A : Type 0} → Reader A → ℕ → List A → Reader (List A)
@@ -23,6 +24,12 @@ table = do
   first ← name
   is_qualified ← eat_symbol s.Dot
   if is_qualified then (name >>= λ second. pure (record { schema = Some first; name = second })) else pure (record { schema = None; name = first })
+
+unfoldable pub using_name : Reader UsingName
+using_name = do
+  place ← here
+  n ← name
+  pure (record { place = place; name = n })
 
 unfoldable pub alias : Reader (Option (List ℕ))
 alias = do

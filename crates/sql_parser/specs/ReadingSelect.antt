@@ -23,15 +23,15 @@ use Rattle.sql_tree.specs.declared.select.OrderKey.{OrderKey}
 use Rattle.sql_tree.specs.declared.select.Select.{Select}
 use Rattle.sql_parser.specs.declared.select.JoinKind.{JoinKind}
 use Rattle.sql_parser.specs.declared.select.JoinKind.TheVariants as kind
-use Rattle.sql_parser.specs.Input.{Reader, ◌>>=◌, ◌>>◌, pure, skip, here, look, sees_number, eat_word, eat_symbol, expect_word, expect_symbol, name, number}
-use Rattle.sql_parser.specs.Reading.{column, expression}
-use Rattle.sql_parser.specs.ReadingList.{separated, table, alias}
+use Rattle.sql_expressions.specs.Input.{Reader, ◌>>=◌, ◌>>◌, pure, skip, here, look, sees_number, eat_word, eat_symbol, expect_word, expect_symbol, number}
+use Rattle.sql_expressions.specs.Reading.{column, expression}
+use Rattle.sql_parser.specs.ReadingList.{separated, table, using_name, alias}
 
 unfoldable pub using : Reader Cond
 using = do
   expect_word w.Using
   expect_symbol s.Open
-  names ← separated name
+  names ← separated using_name
   expect_symbol s.Close
   pure (Using names)
 

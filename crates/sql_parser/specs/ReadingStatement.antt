@@ -12,9 +12,9 @@ use Rattle.sql_tree.specs.declared.tree.ColumnName.{ColumnName}
 use Rattle.sql_tree.specs.declared.statement.TileText.{TileText}
 use Rattle.sql_tree.specs.declared.statement.Statement.{Statement}
 use Rattle.sql_tree.specs.declared.statement.Statement.TheVariants as statement
-use Rattle.sql_parser.specs.Input.{Input, Reader, ◌>>=◌, ◌>>◌, pure, refuse, skip, by_token, eat_word, eat_symbol, expect_word, expect_symbol, number}
+use Rattle.sql_expressions.specs.Input.{Input, Reader, ◌>>=◌, ◌>>◌, pure, refuse, skip, by_token, eat_word, eat_symbol, expect_word, expect_symbol, number}
 use Rattle.sql_parser.specs.Grammar.{of_column}
-use Rattle.sql_parser.specs.Reading.{column, aggregation}
+use Rattle.sql_expressions.specs.Reading.{column, aggregation}
 use Rattle.sql_parser.specs.ReadingList.{separated, table}
 use Rattle.sql_parser.specs.ReadingSelect.{select}
 

@@ -1,14 +1,12 @@
 //! Names, and lists with commas.
 ghost use Rattle.std.specs.Prelude.{◌≡◌};
-ghost use Rattle.sql_parser.specs.Input.{Reader, Reads};
-ghost use Rattle.sql_parser.specs.Input as input;
+ghost use Rattle.sql_expressions.specs.Input.{Reader, Reads};
 ghost use Rattle.sql_parser.specs.ReadingList as spec;
 
-use crate::cursor::Cursor;
-use crate::fault::ParseFault;
 use cal_value::{List, SqlText};
+use sql_expressions::{Cursor, ParseFault};
 use sql_text::{Reserved, Symbol};
-use sql_tree::TableName;
+use sql_tree::{TableName, UsingName};
 use std::alloc::Global;
 
 /// A part of a statement that stands in lists.
@@ -20,12 +18,15 @@ pub trait Parse: Drop {
         ensures { Reads (reads cursor.old) result cursor.new };
 }
 
-/// A name.
-impl Parse for SqlText {
-    ghost reads = { input.name };
+/// A name of USING.
+impl Parse for UsingName {
+    ghost reads = { spec.using_name };
 
-    fn parse(alloc: Global, cursor: &mut Cursor<'_>) -> Result<SqlText, ParseFault> {
-        cursor.name(alloc)
+    #[tactic(auto, unfolding(crate::specs::ReadingList::using_name))]
+    fn parse(alloc: Global, cursor: &mut Cursor<'_>) -> Result<UsingName, ParseFault> {
+        let place = cursor.place();
+        let name = cursor.name(alloc)?;
+        Ok(UsingName { place, name })
     }
 }
 

@@ -2,22 +2,21 @@
 ghost use Rattle.std.specs.Prelude.{◌≡◌, List as ListOf, IfOk, IfErr, OnOk};
 ghost use Rattle.sql_text.specs.declared.token.Token.{Token as TokenOf};
 ghost use Rattle.sql_tree.specs.declared.statement.Statement.{Statement as StatementOf};
+ghost use Rattle.sql_expressions.specs.declared.limits.TheConstants.{NESTING_LIMIT};
 ghost use Rattle.sql_parser.specs.Answers.{IsWithinLimits, IsFaultOf, IsAnswer};
 ghost use Rattle.sql_parser.specs.Grammar.{Spells};
 ghost use Rattle.sql_parser.specs.ReadingStatement as reading;
 
-use crate::cursor::Cursor;
-use crate::fault::ParseFault;
-use crate::limits::{MOST_OPEN, MOST_OPERATORS, is_insert, most_open, operators};
 use crate::statement::statement;
-use cal_value::List;
+use cal_value::{BRACKET_LIMIT, List, OPERATOR_LIMIT};
+use sql_expressions::{Cursor, ParseFault, is_insert, most_open, operators};
 use sql_text::Token;
 use sql_tree::Statement;
 use std::alloc::Global;
 
 #[tactic(auto, unfolding(crate::specs::ReadingStatement::read_tokens))]
 fn read(alloc: Global, tokens: &[Token]) -> Result<Statement, ParseFault>
-    ensures { IsAnswer (reading.read_tokens 321 tokens.now) result }
+    ensures { IsAnswer (reading.read_tokens NESTING_LIMIT tokens.now) result }
 {
     let mut cursor = Cursor::new(tokens);
     statement(alloc, &mut cursor)
@@ -40,12 +39,14 @@ pub fn parse(alloc: Global, tokens: &List<Token>) -> Result<Statement, ParseFaul
     ensures fault { IfErr result (IsFaultOf tokens.now) }
 {
     let tokens = tokens.as_slice();
-    if most_open(tokens) > MOST_OPEN as usize {
-        return Err(ParseFault::TooDeep { limit: MOST_OPEN });
+    if most_open(tokens) > BRACKET_LIMIT as usize {
+        return Err(ParseFault::TooDeep {
+            limit: BRACKET_LIMIT,
+        });
     }
-    if !is_insert(tokens) && operators(tokens) > MOST_OPERATORS as usize {
+    if !is_insert(tokens) && operators(tokens) > OPERATOR_LIMIT as usize {
         return Err(ParseFault::TooManyOperators {
-            limit: MOST_OPERATORS,
+            limit: OPERATOR_LIMIT,
         });
     }
     parse_within(alloc, tokens)

@@ -1,14 +1,14 @@
 //! SELECT.
 ghost use Rattle.std.specs.Prelude.{◌≡◌, ◌<◌, length, IfOk, unwrap_or};
-ghost use Rattle.sql_parser.specs.Input.{Reads};
-ghost use Rattle.sql_parser.specs.Reading as reading;
+ghost use Rattle.sql_expressions.specs.declared.limits.TheConstants.{NESTING_LIMIT};
+ghost use Rattle.sql_expressions.specs.Input.{Reads};
+ghost use Rattle.sql_expressions.specs.Reading as reading;
 ghost use Rattle.sql_parser.specs.ReadingSelect as spec;
 
-use crate::cursor::Cursor;
-use crate::expression::{column, expression};
-use crate::fault::ParseFault;
 use crate::list::{Parse, alias, separated, table};
 use cal_value::{Duplicate, List, NoMemory, SqlText};
+use sql_expressions::expression::{column, expression};
+use sql_expressions::{Cursor, ParseFault};
 use sql_text::{Reserved, Symbol, Token};
 use sql_tree::{
     ColumnName, Cond, FromEntry, How, Item, Items, KeyBy, OrderKey, Select, TableName, Tree,
@@ -24,7 +24,7 @@ pub enum JoinKind {
 }
 
 impl Parse for Item {
-    ghost reads = { spec.item 321 };
+    ghost reads = { spec.item NESTING_LIMIT };
 
     #[tactic(auto, unfolding(crate::specs::ReadingSelect::item))]
     fn parse(alloc: Global, cursor: &mut Cursor<'_>) -> Result<Item, ParseFault> {
@@ -44,7 +44,7 @@ impl Parse for ColumnName {
 
 #[tactic(auto, unfolding(crate::specs::ReadingSelect::items))]
 fn items(alloc: Global, cursor: &mut Cursor<'_>) -> Result<Items, ParseFault>
-    ensures { Reads (spec.items 321 cursor.old) result cursor.new }
+    ensures { Reads (spec.items NESTING_LIMIT cursor.old) result cursor.new }
 {
     if cursor.eat_symbol(Symbol::Star) {
         return Ok(Items::Star);
@@ -65,7 +65,7 @@ fn using(alloc: Global, cursor: &mut Cursor<'_>) -> Result<Cond, ParseFault>
 
 #[tactic(auto, unfolding(crate::specs::ReadingSelect::cond))]
 fn cond(alloc: Global, cursor: &mut Cursor<'_>) -> Result<Cond, ParseFault>
-    ensures { Reads (spec.cond 321 cursor.old) result cursor.new }
+    ensures { Reads (spec.cond NESTING_LIMIT cursor.old) result cursor.new }
 {
     if cursor.eat_word(Reserved::On) {
         Ok(Cond::On(expression(alloc, cursor)?))
@@ -167,7 +167,7 @@ fn entry_of(
 
 #[tactic(auto, unfolding(crate::specs::ReadingSelect::how_by))]
 fn how_by(alloc: Global, cursor: &mut Cursor<'_>, kind: JoinKind) -> Result<How, ParseFault>
-    ensures { Reads (spec.how_by 321 kind cursor.old) result cursor.new }
+    ensures { Reads (spec.how_by NESTING_LIMIT kind cursor.old) result cursor.new }
 {
     match kind {
         JoinKind::Cross => Ok(How::Cross),
@@ -178,7 +178,7 @@ fn how_by(alloc: Global, cursor: &mut Cursor<'_>, kind: JoinKind) -> Result<How,
 
 #[tactic(auto, unfolding(crate::specs::ReadingSelect::joined))]
 fn joined(alloc: Global, cursor: &mut Cursor<'_>, kind: JoinKind) -> Result<FromEntry, ParseFault>
-    ensures { Reads (spec.joined 321 kind cursor.old) result cursor.new }
+    ensures { Reads (spec.joined NESTING_LIMIT kind cursor.old) result cursor.new }
 {
     let table = table(alloc, cursor)?;
     let alias = alias(alloc, cursor)?;
@@ -197,7 +197,7 @@ fn first_entry(alloc: Global, cursor: &mut Cursor<'_>) -> Result<FromEntry, Pars
 
 #[tactic(auto, unfolding(crate::specs::ReadingSelect::from, crate::specs::ReadingSelect::joins_from))]
 fn from(alloc: Global, cursor: &mut Cursor<'_>) -> Result<List<FromEntry>, ParseFault>
-    ensures { Reads (spec.from 321 cursor.old) result cursor.new }
+    ensures { Reads (spec.from NESTING_LIMIT cursor.old) result cursor.new }
 {
     let mut found = List::new(alloc);
     found.push(first_entry(alloc, cursor)?)?;
@@ -217,7 +217,7 @@ fn clause(
     cursor: &mut Cursor<'_>,
     word: Reserved,
 ) -> Result<Option<Tree>, ParseFault>
-    ensures { Reads (spec.clause 321 word cursor.old) result cursor.new }
+    ensures { Reads (spec.clause NESTING_LIMIT word cursor.old) result cursor.new }
 {
     if !cursor.eat_word(word) {
         return Ok(None);
@@ -314,7 +314,7 @@ fn order(alloc: Global, cursor: &mut Cursor<'_>) -> Result<List<OrderKey>, Parse
 /// A SELECT, from behind its first word.
 #[tactic(auto, unfolding(crate::specs::ReadingSelect::select))]
 pub fn select(alloc: Global, cursor: &mut Cursor<'_>) -> Result<Select, ParseFault>
-    ensures { Reads (spec.select 321 cursor.old) result cursor.new }
+    ensures { Reads (spec.select NESTING_LIMIT cursor.old) result cursor.new }
 {
     let distinct = cursor.eat_word(Reserved::Distinct);
     let items = items(alloc, cursor)?;

@@ -1,15 +1,15 @@
 //! Statements.
 ghost use Rattle.std.specs.Prelude.{◌≡◌, ◌<◌, length};
-ghost use Rattle.sql_parser.specs.Input.{Reads};
+ghost use Rattle.sql_expressions.specs.declared.limits.TheConstants.{NESTING_LIMIT};
+ghost use Rattle.sql_expressions.specs.Input.{Reads};
 ghost use Rattle.sql_parser.specs.Grammar as grammar;
 ghost use Rattle.sql_parser.specs.ReadingStatement as spec;
 
-use crate::cursor::Cursor;
-use crate::expression::aggregation;
-use crate::fault::ParseFault;
 use crate::list::{Parse, separated, table};
 use crate::select::select;
 use cal_value::{Duplicate, List, Value};
+use sql_expressions::expression::aggregation;
+use sql_expressions::{Cursor, ParseFault};
 use sql_text::{Reserved, Symbol, Token};
 use sql_tree::{ColumnName, Statement, TileText, Tree};
 use std::alloc::Global;
@@ -28,7 +28,7 @@ fn literal_word(cursor: &mut Cursor<'_>, word: Reserved) -> Result<Value, ParseF
     Ok(value)
 }
 
-#[tactic(auto, unfolding(crate::specs::ReadingStatement::plain_literal, crate::specs::Input::by_token))]
+#[tactic(auto, unfolding(crate::specs::ReadingStatement::plain_literal, sql_expressions::specs::Input::by_token))]
 fn plain_literal(alloc: Global, cursor: &mut Cursor<'_>) -> Result<Value, ParseFault>
     ensures { Reads (spec.plain_literal cursor.old) result cursor.new }
 {
@@ -89,7 +89,7 @@ fn insert(alloc: Global, cursor: &mut Cursor<'_>) -> Result<Statement, ParseFaul
 /// From behind EXPLAIN PLAN.
 #[tactic(auto, unfolding(crate::specs::ReadingStatement::explain_plan))]
 fn explain_plan(alloc: Global, cursor: &mut Cursor<'_>) -> Result<Statement, ParseFault>
-    ensures { Reads (spec.explain_plan 321 cursor.old) result cursor.new }
+    ensures { Reads (spec.explain_plan NESTING_LIMIT cursor.old) result cursor.new }
 {
     cursor.expect_word(Reserved::For)?;
     cursor.expect_word(Reserved::Select)?;
@@ -100,7 +100,7 @@ fn explain_plan(alloc: Global, cursor: &mut Cursor<'_>) -> Result<Statement, Par
 /// From behind EXPLAIN.
 #[tactic(auto, unfolding(crate::specs::ReadingStatement::explain_memo))]
 fn explain_memo(alloc: Global, cursor: &mut Cursor<'_>) -> Result<Statement, ParseFault>
-    ensures { Reads (spec.explain_memo 321 cursor.old) result cursor.new }
+    ensures { Reads (spec.explain_memo NESTING_LIMIT cursor.old) result cursor.new }
 {
     cursor.expect_word(Reserved::Memo)?;
     cursor.expect_word(Reserved::For)?;
@@ -111,7 +111,7 @@ fn explain_memo(alloc: Global, cursor: &mut Cursor<'_>) -> Result<Statement, Par
 
 #[tactic(auto, unfolding(crate::specs::ReadingStatement::explain))]
 fn explain(alloc: Global, cursor: &mut Cursor<'_>) -> Result<Statement, ParseFault>
-    ensures { Reads (spec.explain 321 cursor.old) result cursor.new }
+    ensures { Reads (spec.explain NESTING_LIMIT cursor.old) result cursor.new }
 {
     if cursor.eat_word(Reserved::Plan) {
         explain_plan(alloc, cursor)
@@ -169,7 +169,7 @@ fn of_column(tree: &Tree) -> bool
 
 /// A measure of a tile, which alone stands in lists of trees.
 impl Parse for Tree {
-    ghost reads = { spec.measure 321 };
+    ghost reads = { spec.measure NESTING_LIMIT };
 
     #[tactic(auto, unfolding(crate::specs::ReadingStatement::measure))]
     fn parse(alloc: Global, cursor: &mut Cursor<'_>) -> Result<Tree, ParseFault> {
@@ -184,7 +184,7 @@ impl Parse for Tree {
 
 #[tactic(auto, unfolding(crate::specs::ReadingStatement::measures))]
 fn measures(alloc: Global, cursor: &mut Cursor<'_>) -> Result<Option<List<Tree>>, ParseFault>
-    ensures { Reads (spec.measures 321 cursor.old) result cursor.new }
+    ensures { Reads (spec.measures NESTING_LIMIT cursor.old) result cursor.new }
 {
     if !cursor.eat_word(Reserved::Measures) {
         return Ok(None);
@@ -198,7 +198,7 @@ fn measures(alloc: Global, cursor: &mut Cursor<'_>) -> Result<Option<List<Tree>>
 /// From behind CREATE or DROP.
 #[tactic(auto, unfolding(crate::specs::ReadingStatement::tile))]
 fn tile(alloc: Global, cursor: &mut Cursor<'_>) -> Result<TileText, ParseFault>
-    ensures { Reads (spec.tile 321 cursor.old) result cursor.new }
+    ensures { Reads (spec.tile NESTING_LIMIT cursor.old) result cursor.new }
 {
     cursor.expect_word(Reserved::Tile)?;
     cursor.expect_word(Reserved::On)?;
@@ -245,7 +245,7 @@ fn body_word(
     word: Reserved,
 ) -> Result<Statement, ParseFault>
     requires { 0 < length cursor.old.left }
-    ensures { Reads (spec.body_word 321 word cursor.old) result cursor.new }
+    ensures { Reads (spec.body_word NESTING_LIMIT word cursor.old) result cursor.new }
 {
     cursor.skip();
     match word {
@@ -260,9 +260,9 @@ fn body_word(
     }
 }
 
-#[tactic(auto, unfolding(crate::specs::ReadingStatement::body, crate::specs::Input::by_token))]
+#[tactic(auto, unfolding(crate::specs::ReadingStatement::body, sql_expressions::specs::Input::by_token))]
 fn body(alloc: Global, cursor: &mut Cursor<'_>) -> Result<Statement, ParseFault>
-    ensures { Reads (spec.body 321 cursor.old) result cursor.new }
+    ensures { Reads (spec.body NESTING_LIMIT cursor.old) result cursor.new }
 {
     match cursor.left() {
         [Token::Word(word), ..] => body_word(alloc, cursor, *word),
@@ -283,7 +283,7 @@ fn end(cursor: &mut Cursor<'_>) -> Result<(), ParseFault>
 /// The statement that all tokens are, with or without a `;` behind it.
 #[tactic(auto, unfolding(crate::specs::ReadingStatement::statement_reader))]
 pub fn statement(alloc: Global, cursor: &mut Cursor<'_>) -> Result<Statement, ParseFault>
-    ensures { Reads (spec.statement_reader 321 cursor.old) result cursor.new }
+    ensures { Reads (spec.statement_reader NESTING_LIMIT cursor.old) result cursor.new }
 {
     let read = body(alloc, cursor)?;
     cursor.eat_symbol(Symbol::Semicolon);

@@ -1,6 +1,8 @@
 use crate::{ParseFault, one_statement, parse, printed_text_spells_the_statement};
+use cal_value::Duplicate;
 use sql_printer::print_statement;
 use sql_text::tokens;
+use sql_tree::{Cond, How, Items, Select, Statement, Tree};
 use std::alloc::Global;
 use std::test::Fail;
 
@@ -101,11 +103,12 @@ fn the_two_limits(rt: HostRuntime) -> Result<(), Fail> {
     Ok(())
 }
 
-/// What the statement of a text prints as.
+/// What a copy of the statement of a text prints as.
 fn printed(alloc: Global, text: &str) -> Result<String, Fail> {
     let found = tokens(alloc, text)?;
     let statement = parse(alloc, &found)?;
-    let bytes = print_statement(alloc, &statement)?;
+    let copy = statement.copy(alloc)?;
+    let bytes = print_statement(alloc, &copy)?;
     Ok(String::from_str(alloc, str::from_utf8(bytes.as_slice())?)?)
 }
 
@@ -205,5 +208,122 @@ fn what_statements_print_as(rt: HostRuntime) -> Result<(), Fail> {
         assert_eq!(rt; found.as_str(), want);
     }
     printed_text_spells_the_statement();
+    Ok(())
+}
+
+fn add(alloc: Global, out: &mut String, place: u64) -> Result<(), Fail> {
+    let place = format!(in alloc; "{place} ")?;
+    out.push_str(place.as_str())?;
+    Ok(())
+}
+
+fn place_of(tree: &Tree) -> u64 {
+    match tree {
+        Tree::Column { place, .. } => *place,
+        Tree::Literal { place, .. } => *place,
+        Tree::Negate { place, .. } => *place,
+        Tree::Binary { place, .. } => *place,
+        Tree::Not { place, .. } => *place,
+        Tree::IsNull { place, .. } => *place,
+        Tree::Aggregate { place, .. } => *place,
+    }
+}
+
+/// The place of each node, a node before its parts.
+fn add_tree(alloc: Global, out: &mut String, tree: &Tree) -> Result<(), Fail> {
+    add(alloc, out, place_of(tree))?;
+    match tree {
+        Tree::Negate { operand, .. } => add_tree(alloc, out, operand.get()),
+        Tree::Not { operand, .. } => add_tree(alloc, out, operand.get()),
+        Tree::IsNull { operand, .. } => add_tree(alloc, out, operand.get()),
+        Tree::Binary { left, right, .. } => {
+            add_tree(alloc, out, left.get())?;
+            add_tree(alloc, out, right.get())
+        }
+        Tree::Aggregate {
+            argument: Some(argument),
+            ..
+        } => add_tree(alloc, out, argument.get()),
+        _ => Ok(()),
+    }
+}
+
+fn add_optional(alloc: Global, out: &mut String, tree: &Option<Tree>) -> Result<(), Fail> {
+    match tree {
+        Some(tree) => add_tree(alloc, out, tree),
+        None => Ok(()),
+    }
+}
+
+fn add_items(alloc: Global, out: &mut String, items: &Items) -> Result<(), Fail> {
+    if let Items::Listed(items) = items {
+        for item in items.as_slice() {
+            add_tree(alloc, out, &item.tree)?;
+        }
+    }
+    Ok(())
+}
+
+fn add_cond(alloc: Global, out: &mut String, cond: &Cond) -> Result<(), Fail> {
+    match cond {
+        Cond::On(tree) => add_tree(alloc, out, tree),
+        Cond::Using(names) => {
+            for name in names.as_slice() {
+                add(alloc, out, name.place)?;
+            }
+            Ok(())
+        }
+    }
+}
+
+fn add_select(alloc: Global, out: &mut String, select: &Select) -> Result<(), Fail> {
+    add_items(alloc, out, &select.items)?;
+    for entry in select.from.as_slice() {
+        if let How::Inner(cond) | How::Left(cond) = &entry.how {
+            add_cond(alloc, out, cond)?;
+        }
+    }
+    add_optional(alloc, out, &select.filter)?;
+    add_optional(alloc, out, &select.having)?;
+    for key in select.order.as_slice() {
+        add(alloc, out, key.place)?;
+    }
+    Ok(())
+}
+
+/// The places in a SELECT: of its items, of the conditions of its joins, of WHERE, of HAVING, and of its keys.
+fn places(alloc: Global, text: &str) -> Result<String, Fail> {
+    let found = tokens(alloc, text)?;
+    let mut out = String::new(alloc);
+    if let Statement::Select(select) = parse(alloc, &found)? {
+        add_select(alloc, &mut out, &select)?;
+    }
+    Ok(out)
+}
+
+#[test]
+fn the_places_of_the_nodes(rt: HostRuntime) -> Result<(), Fail> {
+    let rows = [
+        (
+            "SELECT - (A + 2), COUNT(*), SUM(T.B) FROM T",
+            "1 4 3 5 8 13 15 ",
+        ),
+        (
+            "SELECT A FROM T WHERE B = 1 AND NOT C IS NULL",
+            "1 8 6 5 7 9 11 10 ",
+        ),
+        (
+            "SELECT * FROM T JOIN U ON A = B LEFT JOIN V USING (C, D)",
+            "8 7 9 15 17 ",
+        ),
+        (
+            "SELECT * FROM T HAVING A IS NOT NULL ORDER BY 1, T.A DESC, B",
+            "6 6 5 11 13 18 ",
+        ),
+    ];
+    for (text, want) in rows {
+        let found = places(rt.alloc(), text)?;
+        assert_eq!(rt; found.as_str(), want);
+    }
     Ok(())
 }

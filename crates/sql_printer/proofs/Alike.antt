@@ -7,7 +7,7 @@ use Rattle.sql_tree.specs.declared.tree.Tree.TheFolds.{fold-roll-Tree, ind-Tree,
 use Rattle.sql_tree.specs.declared.tree.Tree.TheOpen.{Tree-F}
 use Rattle.sql_tree.specs.declared.tree.Tree.TheViews.{roll-Tree}
 use Rattle.sql_tree.specs.declared.tree.Tree.TheVariants.{rolls-Column, rolls-Literal, rolls-Negate, rolls-Binary, rolls-Not, rolls-IsNull, rolls-Aggregate}
-use Rattle.sql_text.specs.declared.token.Reserved.TheVariants.{As, On, Where, Having, Order, By, Select as SelectWord, Distinct, From, Measures, Tile, Plan, Memo, Create, Drop}
+use Rattle.sql_text.specs.declared.token.Reserved.TheVariants.{As, On, Using as UsingWord, Where, Having, Order, By, Select as SelectWord, Distinct, From, Measures, Tile, Plan, Memo, Create, Drop}
 use Rattle.sql_text.specs.declared.token.Symbol.TheVariants.{Comma}
 use Rattle.sql_text.specs.declared.token.Token.TheVariants.{Name, Word, Symbol}
 use Rattle.sql_tree.specs.declared.select.Item.{Item}
@@ -24,8 +24,8 @@ use Rattle.sql_tree.specs.declared.statement.TileText.{TileText}
 use Rattle.sql_tree.specs.declared.statement.Statement.{Statement}
 use Rattle.sql_tree.specs.declared.statement.Statement.TheVariants.{Select as SelectOf, ExplainPlan, ExplainMemo, Insert, Refresh, CreateTile, DropTile, ChooseTiles}
 use Rattle.std.proofs.lemmas.List.{length-map}
-use Rattle.sql_printer.specs.Printing.{Tokens, Printed, node, printed_tree, listed, in_brackets, column_tokens, table_tokens, tree_tokens, clause, optional, item_tokens, items_tokens, cond_tokens, join_tokens, how_tokens, alias_tokens, entry_tokens, word_if, key_tokens, tail_tokens, select_tokens, measures_tokens, tile_tokens, explain_tokens, printed_tokens}
-use Rattle.sql_tree.specs.Same.{placeless_node, placeless_tree, placeless_item, placeless_items, placeless_cond, placeless_how, placeless_entry, placeless_key, placeless_select, placeless_tile, placeless, IsSame}
+use Rattle.sql_printer.specs.Printing.{Tokens, Printed, node, printed_tree, listed, in_brackets, column_tokens, table_tokens, tree_tokens, clause, optional, item_tokens, items_tokens, using_tokens, cond_tokens, join_tokens, how_tokens, alias_tokens, entry_tokens, word_if, key_tokens, tail_tokens, select_tokens, measures_tokens, tile_tokens, explain_tokens, printed_tokens}
+use Rattle.sql_tree.specs.Same.{placeless_node, placeless_tree, placeless_item, placeless_items, placeless_using, placeless_cond, placeless_how, placeless_entry, placeless_key, placeless_select, placeless_tile, placeless, IsSame}
 
 abbrev Alike : Tree → Type 0
 Alike e = printed_tree (placeless_tree e) ≡ printed_tree e
@@ -90,7 +90,7 @@ items_alike (Listed items) = listed_alike item_tokens placeless_item item_alike 
 
 cond_alike : (cond : Cond) → cond_tokens (placeless_cond cond) ≡ cond_tokens cond
 cond_alike (CondOn tree) = ap (λ ts. Word On ∷ ts) (tokens_alike tree)
-cond_alike (Using names) = refl
+cond_alike (Using names) = ap (λ ts. Word UsingWord ∷ in_brackets ts) (listed_alike using_tokens placeless_using (λ name. refl) names)
 
 how_alike : (how : How) → (join_tokens (placeless_how how) ≡ join_tokens how) × (how_tokens (placeless_how how) ≡ how_tokens how)
 how_alike First = (refl, refl)

@@ -1,9 +1,8 @@
 -- Lemmas on what is written.
-use Rattle.std.proofs.Common.{◌≡◌, ℕ, suc, ◌+◌, add-one, Result, OnOk, List, ◌∷◌, ◌++◌, sym, ap, ◌∙◌, ◌<◌, take, get_or, length, encode_utf8, encode_utf8_all, append_assoc, append-nil, []}
-use Rattle.std.proofs.lemmas.List.{take_more}
+use Rattle.std.proofs.Common.{◌≡◌, ℕ, suc, ◌+◌, add-one, Result, OnOk, List, ◌∷◌, ◌++◌, sym, ap, ◌∙◌, encode_utf8_all, append_assoc, append-nil, []}
 use Rattle.std.proofs.lemmas.List.Sums.{fold-append}
 use Rattle.std.proofs.lemmas.Result.{on_ok_weaker}
-use Rattle.std.proofs.lemmas.Str.{encodes-append, chars_from_encodes}
+use Rattle.std.proofs.lemmas.Str.{chars_from_encodes}
 use Rattle.cal_value.specs.declared.operator.Op.{Op}
 use Rattle.std.specs.Str.{chars, IsUtf8}
 use Rattle.sql_text.specs.declared.token.Token.{Token}
@@ -32,10 +31,6 @@ binary_written r w1 w2 w3 w4 tree left right place o l m is l_is m_is first seco
     on_ok_weaker r (λ e. e ∙ ap (λ w. write_all w (at_least (m + 1) (printed_tree right))) start
     ∙ ap (λ x. write_all (write (write_all w1 (at_least (left_level o) (printed_tree left))) (op_token o)) (at_least x (printed_tree right))) (ap (λ x. x + 1) m_is ∙ more)
     ∙ sym whole ∙ ap (write_all w1) (sym tokens)) third
-
--- one character more
-pub encoded_more : (cs : List ℕ) (i : ℕ) → i < length cs → encode_utf8_all (take (i + 1) cs) ≡ encode_utf8_all (take i cs) ++ encode_utf8 (get_or cs i 0)
-encoded_more cs i h = ap encode_utf8_all (take_more cs i 0 h) ∙ encodes-append (take i cs) (get_or cs i 0 ∷ []) ∙ ap (λ xs. encode_utf8_all (take i cs) ++ xs) (append-nil (encode_utf8 (get_or cs i 0)))
 
 -- what is written one after another is the text of the tokens
 pub written_text : (w : Written) (ts : List Token) → (write_all w ts).0 ≡ w.0 ++ text_behind w.1 ts

@@ -7,6 +7,7 @@ use Rattle.std.specs.Str.Parse.{AllDigits}
 use Rattle.std.proofs.lemmas.Bool.Decides.{nat_tests}
 use Rattle.std.proofs.lemmas.Int.{ints}
 use Rattle.std.proofs.lemmas.Fmt.{decimal_is_IsNumeral_wide}
+use Rattle.cal_value.specs.declared.limits.TheConstants.{NAME_LIMIT, TEXT_LIMIT}
 use Rattle.cal_value.specs.Interval.{limit}
 use Rattle.sql_text.specs.declared.token.Reserved.{Reserved}
 use Rattle.sql_text.specs.declared.token.Reserved.TheVariants.{Select}
@@ -104,7 +105,7 @@ raised_same (c ∷ name) h =
 free : (name : List ℕ) → is_none (reserved_of name) ≡ true → IsReserved name → ⊥
 free name h r = let e : reserved_of name ≡ Some r.0 = ap reserved_of (sym r.1) ∙ known r.0 in let clash : is_none (reserved_of name) ≡ false = ap (λ o. is_none o) e in absurd (cc)
 
-name_begins : (name rest : List ℕ) → 0 < length name → length name ≤ 128 → continues_word (slice_index rest 0) ≡ false → slice_index rest 0 ≢ 34 → Begins (spelling (Name name) ++ rest) (Name name) rest
+name_begins : (name rest : List ℕ) → 0 < length name → length name ≤ NAME_LIMIT → continues_word (slice_index rest 0) ≡ false → slice_index rest 0 ≢ 34 → Begins (spelling (Name name) ++ rest) (Name name) rest
 name_begins name rest some few ends quote_ends = go (is_plain name) refl
   where
     go : (b : Bool) → is_plain name ≡ b → Begins ((if b then name else quoted 34 name) ++ rest) (Name name) rest
@@ -135,7 +136,7 @@ number_begins n rest small ends =
       ends = ends;
     }
 
-quoted_begins : (text rest : List ℕ) → length text ≤ 4000 → slice_index rest 0 ≢ 39 → Begins (quoted 39 text ++ rest) (Text text) rest
+quoted_begins : (text rest : List ℕ) → length text ≤ TEXT_LIMIT → slice_index rest 0 ≢ 39 → Begins (quoted 39 text ++ rest) (Text text) rest
 quoted_begins text rest few ends = (few, record { split = refl; ends = ends })
 
 -- at `(` and `.` nothing goes on, and elsewhere what follows is no part of a symbol

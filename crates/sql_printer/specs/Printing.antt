@@ -21,6 +21,7 @@ use Rattle.sql_tree.specs.declared.select.TableName.{TableName}
 use Rattle.sql_tree.specs.declared.select.Item.{Item}
 use Rattle.sql_tree.specs.declared.select.Items.{Items}
 use Rattle.sql_tree.specs.declared.select.Items.TheVariants.{Star, Listed}
+use Rattle.sql_tree.specs.declared.select.UsingName.{UsingName}
 use Rattle.sql_tree.specs.declared.select.Cond.{Cond}
 use Rattle.sql_tree.specs.declared.select.Cond.TheVariants.{On, Using}
 use Rattle.sql_tree.specs.declared.select.How.{How}
@@ -59,8 +60,8 @@ column_tokens column = dotted column.alias column.name
 abbrev pub table_tokens : TableName → Tokens
 table_tokens table = dotted table.schema table.name
 
-abbrev pub name_tokens : List ℕ → Tokens
-name_tokens name = Name name ∷ []
+abbrev pub using_tokens : UsingName → Tokens
+using_tokens name = Name name.name ∷ []
 
 abbrev pub integer_tokens : ℤ → Tokens
 integer_tokens (pos n) = Number (pos n) ∷ []
@@ -175,7 +176,7 @@ items_tokens (Listed items) = listed item_tokens items
 
 abbrev pub cond_tokens : Cond → Tokens
 cond_tokens (On tree) = Word word.On ∷ tree_tokens tree
-cond_tokens (Using names) = Word word.Using ∷ in_brackets (listed name_tokens names)
+cond_tokens (Using names) = Word word.Using ∷ in_brackets (listed using_tokens names)
 
 abbrev pub join_tokens : How → Tokens
 join_tokens First = []

@@ -7,7 +7,7 @@ ghost use Rattle.sql_printer.specs.Writer.{state};
 use crate::writer::Writer;
 use cal_value::{Agg, NoMemory, Op, SqlText, Value};
 use sql_text::{Reserved, Symbol};
-use sql_tree::{ColumnName, TableName, Tree};
+use sql_tree::{ColumnName, TableName, Tree, UsingName};
 use sqlite_items::Boxed;
 
 /// What can be printed.
@@ -46,11 +46,11 @@ impl Print for TableName {
     }
 }
 
-impl Print for SqlText {
-    ghost tokens = { spec.name_tokens };
+impl Print for UsingName {
+    ghost tokens = { spec.using_tokens };
 
     fn print(&self, writer: &mut Writer) -> Result<(), NoMemory> {
-        writer.name(self)
+        writer.name(&self.name)
     }
 }
 

@@ -9,7 +9,7 @@ ghost use Rattle.sql_printer.specs.Writer.{state};
 
 use crate::print::{Print, in_brackets, listed};
 use crate::writer::Writer;
-use cal_value::{List, NoMemory, Row, Value};
+use cal_value::{List, NoMemory, Row, Value, push_characters};
 use sql_text::Reserved;
 use sql_tree::{Statement, TableName, TileText, Tree};
 use std::alloc::Global;
@@ -114,9 +114,7 @@ fn encoded(alloc: Global, characters: &[char]) -> Result<String, NoMemory>
     ensures { IfOk result (λ text. string_bytes text ≡ encode_utf8_all characters.now) }
 {
     let mut text = String::new(alloc);
-    for c in characters {
-        text.push(*c)?;
-    }
+    push_characters(&mut text, characters)?;
     Ok(text)
 }
 

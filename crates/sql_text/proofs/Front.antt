@@ -2,6 +2,7 @@
 use Rattle.std.proofs.Common.{◌≡◌, ◌≢◌, ℕ, ◌<◌, ◌≤◌, Bool, true, false, ◌==◌, ◌||◌, inl, inr, Option, Some, None, option_map, List, [], ◌∷◌, ◌++◌, length, drop, slice_index, ℤ, refl, sym, ap, ◌∙◌, subst, arith, if◌then◌else◌}
 use Rattle.std.specs.Char.{is_ascii_digit}
 use Rattle.std.proofs.lemmas.Bool.Decides.{nat_tests}
+use Rattle.cal_value.specs.declared.limits.TheConstants.{NAME_LIMIT, TEXT_LIMIT}
 use Rattle.sql_text.specs.declared.token.Reserved.{Reserved}
 use Rattle.sql_text.specs.declared.token.Symbol.{Symbol}
 use Rattle.sql_text.specs.declared.token.Symbol.TheVariants.{Comma, Dot, Open, Close, Star, Plus, Minus, Slash, Equal, NotEqual, Less, LessEqual, Greater, GreaterEqual, Semicolon}
@@ -130,22 +131,22 @@ token_begins [] t rest stands e = absurd (cc)
 token_begins (c ∷ cs) t rest stands e = go (begins_word c) (is_ascii_digit c) (c == 34) (c == 39) refl refl refl refl e
   where
     go : (w d n x : Bool) → begins_word c ≡ w → is_ascii_digit c ≡ d → (c == 34) ≡ n → (c == 39) ≡ x
-        → (if w then word_at (c ∷ cs) else (if d then number_at (c ∷ cs) else (if n then name_from (within 128 (unquoted 34 false cs))
-        else (if x then text_from (within 4000 (unquoted 39 false cs)) else symbol_from cs (symbol_of c (slice_index cs 0)))))) ≡ Some (t, rest) → Begins (c ∷ cs) t rest
+        → (if w then word_at (c ∷ cs) else (if d then number_at (c ∷ cs) else (if n then name_from (within NAME_LIMIT (unquoted 34 false cs))
+        else (if x then text_from (within TEXT_LIMIT (unquoted 39 false cs)) else symbol_from cs (symbol_of c (slice_index cs 0)))))) ≡ Some (t, rest) → Begins (c ∷ cs) t rest
     go true d n x hw hd hn hx k = word_begins c cs t rest hw k
     go false true n x hw hd hn hx k = number_begins c cs t rest hd k
     go false false true x hw hd hn hx k = first_is c 34 cs t rest hn (name_begins cs t rest k)
     go false false false true hw hd hn hx k = first_is c 39 cs t rest hx (text_begins cs t rest k)
     go false false false false hw hd hn hx k = symbol_begins c cs t rest (no_comment c cs stands) k
 
-word_token : (cs upper rest : List ℕ) → TakesWord cs upper rest → length upper ≤ 128 → token_of cs ≡ Some (named upper (reserved_of upper), rest)
+word_token : (cs upper rest : List ℕ) → TakesWord cs upper rest → length upper ≤ NAME_LIMIT → token_of cs ≡ Some (named upper (reserved_of upper), rest)
 unfolding token_of
 word_token cs upper rest takes few =
     let p = word_first cs upper rest takes in
     let at : token_of cs ≡ word_at (p.0 ∷ p.1) = ap token_of p.2 ∙ rw p.3 refl in
     at ∙ ap word_at (sym p.2) ∙ word_read cs upper rest takes few
 
-short_word : (w : Reserved) → length (letters w) ≤ 128
+short_word : (w : Reserved) → length (letters w) ≤ NAME_LIMIT
 short_word w = let e = letters_short w in grind (arith, nat_tests)
 
 free_word : (name : List ℕ) → (IsReserved name → ⊥) → (r : Option Reserved) → reserved_of name ≡ r → reserved_of name ≡ None

@@ -1,6 +1,7 @@
 -- What stands in quotes, as it is defined and as it is read.
 use Rattle.std.proofs.Common.{◌≡◌, ◌≢◌, ℕ, ◌<◌, ◌≤◌, Bool, true, false, cond, ◌==◌, nat_lt, inr, Some, None, List, [], ◌∷◌, ◌++◌, length, slice_index, refl, sym, ap, ◌∙◌, subst, arith, append_assoc, if◌then◌else◌}
 use Rattle.std.proofs.lemmas.Bool.Decides.{nat_tests}
+use Rattle.cal_value.specs.declared.limits.TheConstants.{NAME_LIMIT, TEXT_LIMIT}
 use Rattle.sql_text.specs.declared.token.Token.{Token}
 use Rattle.sql_text.specs.declared.token.Token.TheVariants.{Name, Text}
 use Rattle.sql_text.specs.Scan.{Found, Inside, with_front, unquoted, within, name_from, text_from}
@@ -112,28 +113,28 @@ kept most (Some p) inside rest e = go (nat_lt most (length p.0)) refl e
 keeps : (most : ℕ) (inside rest : List ℕ) → length inside ≤ most → within most (Some (inside, rest)) ≡ Some (inside, rest)
 keeps most inside rest h = let e : nat_lt most (length inside) ≡ false = grind (arith, nat_tests, h) in rw e refl
 
-pub text_begins : (cs : List ℕ) (t : Token) (rest : List ℕ) → text_from (within 4000 (unquoted 39 false cs)) ≡ Some (t, rest) → Begins (39 ∷ cs) t rest
-text_begins cs t rest e = go (within 4000 (unquoted 39 false cs)) refl e
+pub text_begins : (cs : List ℕ) (t : Token) (rest : List ℕ) → text_from (within TEXT_LIMIT (unquoted 39 false cs)) ≡ Some (t, rest) → Begins (39 ∷ cs) t rest
+text_begins cs t rest e = go (within TEXT_LIMIT (unquoted 39 false cs)) refl e
   where
-    go : (found : Inside) → within 4000 (unquoted 39 false cs) ≡ found → text_from found ≡ Some (t, rest) → Begins (39 ∷ cs) t rest
+    go : (found : Inside) → within TEXT_LIMIT (unquoted 39 false cs) ≡ found → text_from found ≡ Some (t, rest) → Begins (39 ∷ cs) t rest
     go None f k = absurd (cc)
     go (Some p) f k =
-        let q = kept 4000 (unquoted 39 false cs) p.0 p.1 f in
+        let q = kept TEXT_LIMIT (unquoted 39 false cs) p.0 p.1 f in
         begins_as (39 ∷ cs) (Text p.0) t p.1 rest (pair_is _ _ _ _ k) (q.1, quoted_taken 39 cs p.0 p.1 q.0)
 
-pub name_begins : (cs : List ℕ) (t : Token) (rest : List ℕ) → name_from (within 128 (unquoted 34 false cs)) ≡ Some (t, rest) → Begins (34 ∷ cs) t rest
-name_begins cs t rest e = go (within 128 (unquoted 34 false cs)) refl e
+pub name_begins : (cs : List ℕ) (t : Token) (rest : List ℕ) → name_from (within NAME_LIMIT (unquoted 34 false cs)) ≡ Some (t, rest) → Begins (34 ∷ cs) t rest
+name_begins cs t rest e = go (within NAME_LIMIT (unquoted 34 false cs)) refl e
   where
-    some : (p : List ℕ × List ℕ) → unquoted 34 false cs ≡ Some p → length p.0 ≤ 128 → (b : Bool) → nat_lt 0 (length p.0) ≡ b → cond {A = Found} b (Some (Name p.0, p.1)) None ≡ Some (t, rest) → Begins (34 ∷ cs) t rest
+    some : (p : List ℕ × List ℕ) → unquoted 34 false cs ≡ Some p → length p.0 ≤ NAME_LIMIT → (b : Bool) → nat_lt 0 (length p.0) ≡ b → cond {A = Found} b (Some (Name p.0, p.1)) None ≡ Some (t, rest) → Begins (34 ∷ cs) t rest
     some p f h false g k = absurd (cc)
     some p f h true g k = let more : 0 < length p.0 = grind (arith, nat_tests, g) in begins_as (34 ∷ cs) (Name p.0) t p.1 rest (pair_is _ _ _ _ k) (more, h, inr (quoted_taken 34 cs p.0 p.1 f))
 
-    go : (found : Inside) → within 128 (unquoted 34 false cs) ≡ found → name_from found ≡ Some (t, rest) → Begins (34 ∷ cs) t rest
+    go : (found : Inside) → within NAME_LIMIT (unquoted 34 false cs) ≡ found → name_from found ≡ Some (t, rest) → Begins (34 ∷ cs) t rest
     go None f k = absurd (cc)
-    go (Some p) f k = let q = kept 128 (unquoted 34 false cs) p.0 p.1 f in some p q.0 q.1 (nat_lt 0 (length p.0)) refl k
+    go (Some p) f k = let q = kept NAME_LIMIT (unquoted 34 false cs) p.0 p.1 f in some p q.0 q.1 (nat_lt 0 (length p.0)) refl k
 
-pub text_read : (ds inside rest : List ℕ) → unquoted 39 false ds ≡ Some (inside, rest) → length inside ≤ 4000 → text_from (within 4000 (unquoted 39 false ds)) ≡ Some (Text inside, rest)
-text_read ds inside rest e h = rw (e, keeps 4000 inside rest h) refl
+pub text_read : (ds inside rest : List ℕ) → unquoted 39 false ds ≡ Some (inside, rest) → length inside ≤ TEXT_LIMIT → text_from (within TEXT_LIMIT (unquoted 39 false ds)) ≡ Some (Text inside, rest)
+text_read ds inside rest e h = rw (e, keeps TEXT_LIMIT inside rest h) refl
 
-pub name_read : (ds inside rest : List ℕ) → unquoted 34 false ds ≡ Some (inside, rest) → 0 < length inside → length inside ≤ 128 → name_from (within 128 (unquoted 34 false ds)) ≡ Some (Name inside, rest)
-name_read ds inside rest e some h = let more : nat_lt 0 (length inside) ≡ true = grind (arith, nat_tests, some) in rw (e, keeps 128 inside rest h, more) refl
+pub name_read : (ds inside rest : List ℕ) → unquoted 34 false ds ≡ Some (inside, rest) → 0 < length inside → length inside ≤ NAME_LIMIT → name_from (within NAME_LIMIT (unquoted 34 false ds)) ≡ Some (Name inside, rest)
+name_read ds inside rest e some h = let more : nat_lt 0 (length inside) ≡ true = grind (arith, nat_tests, some) in rw (e, keeps NAME_LIMIT inside rest h, more) refl

@@ -8,6 +8,7 @@ use Rattle.std.proofs.lemmas.Bool.Decides.{nat_tests}
 use Rattle.std.proofs.lemmas.List.{length-map, take_at, drop_at, take-append-drop}
 use Rattle.std.proofs.lemmas.List.Folds.{length-prefix_len}
 use Rattle.std.proofs.lemmas.Slice.Eq.{bytes_eq-Decides}
+use Rattle.cal_value.specs.declared.limits.TheConstants.{NAME_LIMIT}
 use Rattle.cal_value.specs.Interval.{limit}
 use Rattle.sql_text.specs.declared.token.Reserved.{Reserved}
 use Rattle.sql_text.specs.declared.token.Reserved.TheVariants.{Select}
@@ -48,7 +49,7 @@ unfolding reserved_of
 known Select = refl
 known _ = refl
 
-pub letters_short : (w : Reserved) → nat_lt 128 (length (letters w)) ≡ false
+pub letters_short : (w : Reserved) → nat_lt NAME_LIMIT (length (letters w)) ≡ false
 letters_short Select = refl
 letters_short _ = refl
 
@@ -97,7 +98,7 @@ word_taken c cs h = record {
   ends = prefix_stops continues_word (c ∷ cs) refl;
 }
 
-named_begins : (cs upper rest : List ℕ) → TakesWord cs upper rest → 0 < length upper → length upper ≤ 128 → (r : Option Reserved) → reserved_of upper ≡ r → Begins cs (named upper r) rest
+named_begins : (cs upper rest : List ℕ) → TakesWord cs upper rest → 0 < length upper → length upper ≤ NAME_LIMIT → (r : Option Reserved) → reserved_of upper ≡ r → Begins cs (named upper r) rest
 named_begins cs upper rest takes some few None e = (some, few, inl (takes, unreserved upper e))
 named_begins cs upper rest takes some few (Some w) e = let T : List ℕ → Type 0 = λ xs. TakesWord cs xs rest in subst T (sym (reserved_is upper w e)) takes
 
@@ -112,15 +113,15 @@ begins_as cs t u r s e h =
 
 pub word_begins : (c : ℕ) (cs : List ℕ) (t : Token) (rest : List ℕ) → begins_word c ≡ true → word_at (c ∷ cs) ≡ Some (t, rest) → Begins (c ∷ cs) t rest
 unfolding word_at
-word_begins c cs t rest h e = go (nat_lt 128 (run (c ∷ cs))) refl e
+word_begins c cs t rest h e = go (nat_lt NAME_LIMIT (run (c ∷ cs))) refl e
   where
-    go : (b : Bool) → nat_lt 128 (run (c ∷ cs)) ≡ b → cond {A = Found} b None (Some (named (raised_run (c ∷ cs)) (reserved_of (raised_run (c ∷ cs))), drop (run (c ∷ cs)) (c ∷ cs))) ≡ Some (t, rest) → Begins (c ∷ cs) t rest
+    go : (b : Bool) → nat_lt NAME_LIMIT (run (c ∷ cs)) ≡ b → cond {A = Found} b None (Some (named (raised_run (c ∷ cs)) (reserved_of (raised_run (c ∷ cs))), drop (run (c ∷ cs)) (c ∷ cs))) ≡ Some (t, rest) → Begins (c ∷ cs) t rest
     go true few k = absurd (cc)
     go false few k =
         let upper = raised_run (c ∷ cs) in
         let len : length upper ≡ run (c ∷ cs) = word_len (c ∷ cs) in
         let some : 0 < run (c ∷ cs) = rw (continues c h) (omega arith) in
-        let most : run (c ∷ cs) ≤ 128 = grind (arith, nat_tests, few) in
+        let most : run (c ∷ cs) ≤ NAME_LIMIT = grind (arith, nat_tests, few) in
         begins_as (c ∷ cs) (named upper (reserved_of upper)) t (drop (run (c ∷ cs)) (c ∷ cs)) rest (pair_is _ _ _ _ k)
         (named_begins (c ∷ cs) upper _ (word_taken c cs h) (omega arith) (omega arith) (reserved_of upper) refl)
 
@@ -129,14 +130,14 @@ word_continues [] h = refl
 word_continues (c ∷ word) h = let p = both (begins_word c) (list_all continues_word word) h in rw (continues c p.0) p.1
 
 -- a word as it is defined is read
-pub word_read : (cs upper rest : List ℕ) → TakesWord cs upper rest → length upper ≤ 128 → word_at cs ≡ Some (named upper (reserved_of upper), rest)
+pub word_read : (cs upper rest : List ℕ) → TakesWord cs upper rest → length upper ≤ NAME_LIMIT → word_at cs ≡ Some (named upper (reserved_of upper), rest)
 unfolding word_at
 word_read cs upper rest takes few =
     let len : run cs ≡ length takes.word = ap (prefix_len continues_word) takes.split ∙ prefix_is continues_word takes.word rest (word_continues takes.word takes.formed) takes.ends in
     let taken : take (run cs) cs ≡ takes.word = ap (take (run cs)) takes.split ∙ take_at takes.word rest (run cs) (sym len) in
     let dropped : drop (run cs) cs ≡ rest = ap (drop (run cs)) takes.split ∙ drop_at takes.word rest (run cs) (sym len) in
     let size : length takes.word ≡ length upper = sym (length-map takes.word to_ascii_uppercase) ∙ ap (λ xs. length xs) (sym takes.raised) in
-    let short : nat_lt 128 (run cs) ≡ false = grind (arith, nat_tests, len, size) in
+    let short : nat_lt NAME_LIMIT (run cs) ≡ false = grind (arith, nat_tests, len, size) in
     let raised : map to_ascii_uppercase (take (run cs) cs) ≡ upper = ap (map to_ascii_uppercase) taken ∙ sym takes.raised in
     rw (short, raised, dropped) refl
 

@@ -4,6 +4,7 @@ use Rattle.std.specs.Borrow.{Bor}
 use Rattle.std.specs.Char.{is_ascii_digit, to_ascii_uppercase}
 use Rattle.std.specs.List.{prefix_len}
 use Rattle.std.specs.Str.Parse.{digits_value}
+use Rattle.cal_value.specs.declared.limits.TheConstants.{NAME_LIMIT, TEXT_LIMIT}
 use Rattle.cal_value.specs.Interval.{limit}
 use Rattle.sql_text.specs.declared.token.Reserved.{Reserved}
 use Rattle.sql_text.specs.declared.token.Symbol.{Symbol}
@@ -35,7 +36,7 @@ unfoldable pub word_at : List ℕ → Found
 word_at cs =
     let len = prefix_len continues_word cs in
     let upper = map to_ascii_uppercase (take len cs) in
-    if nat_lt 128 len then None else Some (named upper (reserved_of upper), drop len cs)
+    if nat_lt NAME_LIMIT len then None else Some (named upper (reserved_of upper), drop len cs)
 
 unfoldable pub number_at : List ℕ → Found
 number_at cs =
@@ -94,6 +95,6 @@ token_of [] = None
 token_of (c ∷ cs) =
     if begins_word c then word_at (c ∷ cs)
     else (if is_ascii_digit c then number_at (c ∷ cs)
-    else (if c == 34 then name_from (within 128 (unquoted 34 false cs))
-    else (if c == 39 then text_from (within 4000 (unquoted 39 false cs))
+    else (if c == 34 then name_from (within NAME_LIMIT (unquoted 34 false cs))
+    else (if c == 39 then text_from (within TEXT_LIMIT (unquoted 39 false cs))
     else symbol_from cs (symbol_of c (slice_index cs 0)))))

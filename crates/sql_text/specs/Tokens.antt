@@ -3,6 +3,7 @@ use Rattle.std.specs.Prelude.{◌≡◌, ◌≢◌, ◌<◌, ◌≤◌, ◌≤�
 use Rattle.std.specs.Char.{is_ascii_alphabetic, is_ascii_alphanumeric, is_ascii_digit, to_ascii_uppercase}
 use Rattle.std.specs.List.{list_all}
 use Rattle.std.specs.Str.Parse.{digits_value}
+use Rattle.cal_value.specs.declared.limits.TheConstants.{NAME_LIMIT, TEXT_LIMIT}
 use Rattle.cal_value.specs.Interval.{limit}
 use Rattle.sql_text.specs.declared.token.Reserved.{Reserved}
 use Rattle.sql_text.specs.declared.token.Symbol.{Symbol}
@@ -94,17 +95,17 @@ pub record TakesSymbol (cs : List ℕ) (symbol : Symbol) (rest : List ℕ) : Typ
 -- the token stands at the front, and rest follows it
 abbrev pub Begins : List ℕ → Token → List ℕ → Type 0
 Begins cs (Word w) rest = TakesWord cs (letters w) rest
-Begins cs (Name name) rest = (0 < length name) × (length name ≤ 128) × ((TakesWord cs name rest × (IsReserved name → ⊥)) ⊎ TakesQuoted 34 cs name rest)
+Begins cs (Name name) rest = (0 < length name) × (length name ≤ NAME_LIMIT) × ((TakesWord cs name rest × (IsReserved name → ⊥)) ⊎ TakesQuoted 34 cs name rest)
 Begins cs (Number n) rest = TakesNumber cs n rest
-Begins cs (Text text) rest = (length text ≤ 4000) × TakesQuoted 39 cs text rest
+Begins cs (Text text) rest = (length text ≤ TEXT_LIMIT) × TakesQuoted 39 cs text rest
 Begins cs (SymbolToken s) rest = TakesSymbol cs s rest
 
 -- a token that stands in some text
 abbrev pub IsToken : Token → Type 0
 IsToken (Word w) = ⊤
-IsToken (Name name) = (0 < length name) × (length name ≤ 128)
+IsToken (Name name) = (0 < length name) × (length name ≤ NAME_LIMIT)
 IsToken (Number n) = (pos 0 ≤ℤ n) × (n <ℤ pos limit)
-IsToken (Text text) = length text ≤ 4000
+IsToken (Text text) = length text ≤ TEXT_LIMIT
 IsToken (SymbolToken s) = ⊤
 
 -- ---- a text

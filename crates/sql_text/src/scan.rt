@@ -12,7 +12,7 @@ ghost use Rattle.sql_text.specs.Tokens.{HasTokens, IsTokenFaultOf, IsToken};
 
 use crate::token::{Symbol, Token};
 use crate::words::reserved_word;
-use cal_value::{List, NAME_LIMIT, NUMBER_LIMIT, NoMemory, SqlText, TEXT_LIMIT};
+use cal_value::{List, NAME_LIMIT, NUMBER_LIMIT, NoMemory, SqlText, TEXT_LIMIT, characters};
 use std::alloc::{AllocError, Global};
 use thiserror::Error;
 
@@ -159,7 +159,7 @@ fn unquoted(
     limit: u32,
     mut rest: &[char],
 ) -> Result<Option<(SqlText, &[char])>, NoMemory>
-    requires { limit ≤ 4000 }
+    requires { limit ≤ TEXT_LIMIT }
     ensures { IfOk result (λ found. seen found ≡ within limit (unquoted quote false rest.entry.now)) }
 {
     let mut inside = Vec::new(alloc);
@@ -183,29 +183,24 @@ fn unquoted(
 }
 
 fn quoted_name(alloc: Global, rest: &[char]) -> Result<Found<'_>, NoMemory>
-    ensures { IfOk result (λ found. seen found ≡ name_from (within 128 (unquoted 34 false rest.now))) }
+    ensures { IfOk result (λ found. seen found ≡ name_from (within NAME_LIMIT (unquoted 34 false rest.now))) }
 {
-    match unquoted(alloc, '"', NAME_LIMIT, rest) {
-        Ok(Some((name, more))) => {
-            if name.as_slice().is_empty() {
-                Ok(None)
-            } else {
-                Ok(Some((Token::Name(name), more)))
-            }
-        }
-        Ok(None) => Ok(None),
-        Err(e) => Err(e),
+    let Some((name, more)) = unquoted(alloc, '"', NAME_LIMIT, rest)? else {
+        return Ok(None);
+    };
+    if name.as_slice().is_empty() {
+        return Ok(None);
     }
+    Ok(Some((Token::Name(name), more)))
 }
 
 fn quoted_text(alloc: Global, rest: &[char]) -> Result<Found<'_>, NoMemory>
-    ensures { IfOk result (λ found. seen found ≡ text_from (within 4000 (unquoted 39 false rest.now))) }
+    ensures { IfOk result (λ found. seen found ≡ text_from (within TEXT_LIMIT (unquoted 39 false rest.now))) }
 {
-    match unquoted(alloc, '\'', TEXT_LIMIT, rest) {
-        Ok(Some((text, more))) => Ok(Some((Token::Text(text), more))),
-        Ok(None) => Ok(None),
-        Err(e) => Err(e),
-    }
+    let Some((text, more)) = unquoted(alloc, '\'', TEXT_LIMIT, rest)? else {
+        return Ok(None);
+    };
+    Ok(Some((Token::Text(text), more)))
 }
 
 /// The longest symbol of these two characters, and whether it takes both.
@@ -261,13 +256,6 @@ fn token(alloc: Global, rest: &[char]) -> Result<Found<'_>, NoMemory>
     }
 }
 
-#[tactic(auto, using(std::proofs::lemmas::Str::chars_from_encodes))]
-fn characters(alloc: Global, text: &str) -> Result<Vec<char>, AllocError>
-    ensures { IfOk result (λ all. all.items ≡ chars text.now) }
-{
-    text.chars().collect(alloc)
-}
-
 fn scan(alloc: Global, all: &[char]) -> Result<List<Token>, TokenFault>
     ensures tokens { IfOk result (HasTokens all.now) }
     ensures fault { IfErr result (IsTokenFaultOf all.now) }
@@ -298,8 +286,6 @@ pub fn tokens(alloc: Global, text: &str) -> Result<List<Token>, TokenFault>
     ensures each { IfOk result (All IsToken) }
     ensures none { IfErr result (λ fault. fault ≢ TokenFault.NoMemory → (ts : ListOf TokenOf) → HasTokens (chars text.now) ts → ⊥) }
 {
-    match characters(alloc, text) {
-        Ok(all) => scan(alloc, all.as_slice()),
-        Err(_) => Err(TokenFault::NoMemory),
-    }
+    let all = characters(alloc, text)?;
+    scan(alloc, all.as_slice())
 }

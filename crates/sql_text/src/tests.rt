@@ -1,5 +1,5 @@
 use crate::{Token, TokenFault, tokens};
-use cal_value::SqlText;
+use cal_value::{Duplicate, SqlText};
 use std::alloc::Global;
 use std::test::Fail;
 
@@ -33,7 +33,7 @@ fn read(alloc: Global, text: &str) -> Result<String, Fail> {
         Ok(found) => {
             let mut read = String::new(alloc);
             for token in found.as_slice() {
-                let shown = shown(alloc, token)?;
+                let shown = shown(alloc, &token.copy(alloc)?)?;
                 read.push_str(shown.as_str())?;
                 read.push(' ')?;
             }

@@ -7,6 +7,7 @@ use Rattle.sql_tree.specs.declared.tree.Tree.TheVariants.{Column as ColumnNode, 
 use Rattle.sql_tree.specs.declared.select.Item.{Item}
 use Rattle.sql_tree.specs.declared.select.Items.{Items}
 use Rattle.sql_tree.specs.declared.select.Items.TheVariants.{Star, Listed}
+use Rattle.sql_tree.specs.declared.select.UsingName.{UsingName}
 use Rattle.sql_tree.specs.declared.select.Cond.{Cond}
 use Rattle.sql_tree.specs.declared.select.Cond.TheVariants.{On, Using}
 use Rattle.sql_tree.specs.declared.select.How.{How}
@@ -38,9 +39,12 @@ abbrev pub placeless_items : Items → Items
 placeless_items Star = Star
 placeless_items (Listed items) = Listed (map placeless_item items)
 
+abbrev pub placeless_using : UsingName → UsingName
+placeless_using name = record name { place = 0 }
+
 abbrev pub placeless_cond : Cond → Cond
 placeless_cond (On tree) = On (placeless_tree tree)
-placeless_cond (Using names) = Using names
+placeless_cond (Using names) = Using (map placeless_using names)
 
 abbrev pub placeless_how : How → How
 placeless_how First = First

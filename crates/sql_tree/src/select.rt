@@ -1,7 +1,5 @@
 //! The parts of a SELECT.
-ghost use Rattle.std.specs.Prelude.{◌≡◌, IfOk};
-
-use crate::tree::{ColumnName, Tree, copy_optional_text};
+use crate::tree::{ColumnName, Tree};
 use cal_value::{Duplicate, List, NoMemory, SqlText};
 use std::alloc::Global;
 
@@ -26,11 +24,18 @@ pub enum Items {
     Listed(List<Item>),
 }
 
+/// A name of USING, with its place.
+#[derive(Debug, Drop)]
+pub struct UsingName {
+    pub place: u64,
+    pub name: SqlText,
+}
+
 /// The condition of a join.
 #[derive(Debug, Drop)]
 pub enum Cond {
     On(Tree),
-    Using(List<SqlText>),
+    Using(List<UsingName>),
 }
 
 /// How an entry of FROM is joined with those before it.
@@ -78,18 +83,9 @@ pub struct Select {
     pub order: List<OrderKey>,
 }
 
-fn copy_optional_tree(alloc: Global, tree: &Option<Tree>) -> Result<Option<Tree>, NoMemory>
-    ensures { IfOk result (λ copy. copy ≡ tree.now) }
-{
-    match tree {
-        Some(tree) => Ok(Some(tree.copy(alloc)?)),
-        None => Ok(None),
-    }
-}
-
 impl Duplicate for TableName {
     fn copy(&self, alloc: Global) -> Result<TableName, NoMemory> {
-        let schema = copy_optional_text(alloc, &self.schema)?;
+        let schema = self.schema.copy(alloc)?;
         let name = self.name.copy(alloc)?;
         Ok(TableName { schema, name })
     }
@@ -98,7 +94,7 @@ impl Duplicate for TableName {
 impl Duplicate for Item {
     fn copy(&self, alloc: Global) -> Result<Item, NoMemory> {
         let tree = self.tree.copy(alloc)?;
-        let alias = copy_optional_text(alloc, &self.alias)?;
+        let alias = self.alias.copy(alloc)?;
         Ok(Item { tree, alias })
     }
 }
@@ -109,6 +105,16 @@ impl Duplicate for Items {
             Items::Star => Ok(Items::Star),
             Items::Listed(items) => Ok(Items::Listed(items.copy(alloc)?)),
         }
+    }
+}
+
+impl Duplicate for UsingName {
+    fn copy(&self, alloc: Global) -> Result<UsingName, NoMemory> {
+        let name = self.name.copy(alloc)?;
+        Ok(UsingName {
+            place: self.place,
+            name,
+        })
     }
 }
 
@@ -166,9 +172,9 @@ impl Duplicate for Select {
     fn copy(&self, alloc: Global) -> Result<Select, NoMemory> {
         let items = self.items.copy(alloc)?;
         let from = self.from.copy(alloc)?;
-        let filter = copy_optional_tree(alloc, &self.filter)?;
+        let filter = self.filter.copy(alloc)?;
         let groups = self.groups.copy(alloc)?;
-        let having = copy_optional_tree(alloc, &self.having)?;
+        let having = self.having.copy(alloc)?;
         let order = self.order.copy(alloc)?;
         Ok(Select {
             distinct: self.distinct,

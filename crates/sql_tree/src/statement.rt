@@ -1,6 +1,4 @@
 //! The statements.
-ghost use Rattle.std.specs.Prelude.{◌≡◌, IfOk};
-
 use crate::select::{Select, TableName};
 use crate::tree::{ColumnName, Tree};
 use cal_value::{Duplicate, List, NoMemory, Row};
@@ -31,10 +29,7 @@ impl Duplicate for TileText {
     fn copy(&self, alloc: Global) -> Result<TileText, NoMemory> {
         let lattice = self.lattice.copy(alloc)?;
         let dims = self.dims.copy(alloc)?;
-        let measures = match &self.measures {
-            Some(measures) => Some(measures.copy(alloc)?),
-            None => None,
-        };
+        let measures = self.measures.copy(alloc)?;
         Ok(TileText {
             lattice,
             dims,

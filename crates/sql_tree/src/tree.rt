@@ -1,6 +1,4 @@
 //! The tree of an expression.
-ghost use Rattle.std.specs.Prelude.{◌≡◌, IfOk};
-
 use cal_value::{Agg, Duplicate, NoMemory, Op, SqlText, Value};
 use sqlite_items::Boxed;
 use std::alloc::Global;
@@ -49,32 +47,16 @@ pub enum Tree {
     },
 }
 
-/// A copy of an optional text.
-pub fn copy_optional_text(
-    alloc: Global,
-    text: &Option<SqlText>,
-) -> Result<Option<SqlText>, NoMemory>
-    ensures { IfOk result (λ copy. copy ≡ text.now) }
-{
-    match text {
-        Some(text) => Ok(Some(text.copy(alloc)?)),
-        None => Ok(None),
-    }
-}
-
 impl Duplicate for ColumnName {
     fn copy(&self, alloc: Global) -> Result<ColumnName, NoMemory> {
-        let alias = copy_optional_text(alloc, &self.alias)?;
+        let alias = self.alias.copy(alloc)?;
         let name = self.name.copy(alloc)?;
         Ok(ColumnName { alias, name })
     }
 }
 
-impl Tree {
-    /// An equal tree.
-    pub fn copy(&self, alloc: Global) -> Result<Tree, NoMemory>
-        ensures { IfOk result (λ copy. copy ≡ self.now) }
-    {
+impl Duplicate for Tree {
+    fn copy(&self, alloc: Global) -> Result<Tree, NoMemory> {
         match self {
             Tree::Column { place, name } => Ok(Tree::Column {
                 place: *place,
@@ -123,11 +105,5 @@ impl Tree {
                 })
             }
         }
-    }
-}
-
-impl Duplicate for Tree {
-    fn copy(&self, alloc: Global) -> Result<Tree, NoMemory> {
-        Tree::copy(self, alloc)
     }
 }

@@ -1,6 +1,6 @@
 //! Words without a reading, and reads and writes that fail.
 use crate::TopFault;
-use crate::tests::run::{Device, File, SOUND, ask, inline, is_told, model_of, run};
+use crate::tests::run::{Device, File, SOUND, ask, has_written, inline, model_of, run};
 use std::test::Fail;
 
 #[test]
@@ -35,7 +35,7 @@ fn words_of_a_command_line(rt: HostRuntime) -> Result<(), Fail> {
         } else {
             "A\n1\n"
         };
-        assert!(rt; is_told(&ran, status, text));
+        assert!(rt; has_written(&ran, status, text));
         assert_eq!(rt; ran.record.files.is_empty(), status == 2);
     }
     Ok(())
@@ -77,13 +77,13 @@ fn each_read_fails_once(rt: HostRuntime) -> Result<(), Fail> {
             most: 7,
         };
         let ran = run(alloc, &["m", "SELECT B FROM D"], files.as_slice(), device)?;
-        assert!(rt; is_told(&ran, status, text), "{number}");
+        assert!(rt; has_written(&ran, status, text), "{number}");
         assert_eq!(rt; ran.record.files.len(), read);
     }
     let missing = run(alloc, &["n", "SELECT B FROM D"], files.as_slice(), SOUND)?;
-    assert!(rt; is_told(&missing, 5, "read fault\n"));
+    assert!(rt; has_written(&missing, 5, "read fault\n"));
     let one = run(alloc, &["m", "SELECT B FROM D"], &files[..2], SOUND)?;
-    assert!(rt; is_told(&one, 5, "read fault\n"));
+    assert!(rt; has_written(&one, 5, "read fault\n"));
     Ok(())
 }
 
@@ -117,7 +117,7 @@ fn each_write_fails_once(rt: HostRuntime) -> Result<(), Fail> {
             most,
         };
         let ran = run(alloc, &["m", sql], &[file], device)?;
-        assert!(rt; is_told(&ran, status, text), "{sql} {most} {number}");
+        assert!(rt; has_written(&ran, status, text), "{sql} {most} {number}");
         if status == 6 {
             assert!(rt;
                 matches!(ran.record.fault, Some(TopFault::SinkFault { of: told }) if told == of)

@@ -1,5 +1,5 @@
 //! Models with tables in files.
-use crate::tests::run::{File, Ran, SOUND, ask, is_told, model_of, run};
+use crate::tests::run::{File, Ran, SOUND, ask, has_written, model_of, run};
 use cal_value::NoMemory;
 use std::alloc::Global;
 use std::test::Fail;
@@ -63,39 +63,8 @@ fn a_table_in_a_file(rt: HostRuntime) -> Result<(), Fail> {
         ),
     ] {
         let ran = ask_file(alloc, model.as_str(), bytes.as_bytes(), sql)?;
-        assert!(rt; is_told(&ran, status, text), "{bytes} {sql}");
+        assert!(rt; has_written(&ran, status, text), "{bytes} {sql}");
         assert_eq!(rt; ran.record.files.len(), 2);
-    }
-    Ok(())
-}
-
-#[test]
-fn models_that_are_not_taken(rt: HostRuntime) -> Result<(), Fail> {
-    let alloc = rt.alloc();
-    for (model, text) in [
-        ("[", "model: NotJson\n"),
-        ("{}", "model: /schemas: Missing\n"),
-        (
-            "{\"schemas\":[],\"defaultSchema\":\"S\"}",
-            "model: /defaultSchema: NoSuchName\n",
-        ),
-        (
-            "{\"schemas\":[{\"name\":\"S\",\"tables\":[{\"name\":\"C\",\"factory\":\"org.apache.calcite.adapter.csv.CsvTableFactory\",\"operand\":{\"file\":\"c.csv.gz\"}}]}]}",
-            "model: /schemas/0/tables/0/operand/file: Compressed\n",
-        ),
-        (
-            "{\"schemas\":[{\"name\":\"S\",\"tables\":[{\"name\":\"T\",\"factory\":\"cal.MemTableFactory\",\"operand\":{\"columns\":[\"A:int\"],\"rows\":[[1],[1]],\"primaryKey\":[\"A\"]}}]}]}",
-            "model: /schemas/0/tables/0/operand/rows/1: KeyTaken\n",
-        ),
-        (
-            "{\"schemas\":[{\"name\":\"S\",\"lattices\":[{}]}]}",
-            "model: /schemas/0/lattices: NotYet\n",
-        ),
-    ] {
-        let ran = ask(alloc, model, "SELECT 1 FROM T")?;
-        assert!(rt; is_told(&ran, 3, text), "{model}");
-        assert_eq!(rt; ran.record.files.len(), 1);
-        assert!(rt; ran.record.db.is_none() && ran.record.reply.is_none());
     }
     Ok(())
 }
@@ -120,7 +89,7 @@ fn names_in_quotes_and_no_default_schema(rt: HostRuntime) -> Result<(), Fail> {
         ),
     ] {
         let ran = ask(alloc, model, sql)?;
-        assert!(rt; is_told(&ran, status, text), "{sql}");
+        assert!(rt; has_written(&ran, status, text), "{sql}");
     }
     Ok(())
 }
@@ -131,7 +100,7 @@ fn files_that_are_too_long(rt: HostRuntime) -> Result<(), Fail> {
     let model = model_of(alloc, C)?;
     let blank = vec![in alloc; b'\n'; 8388609]?;
     let long = ask_file(alloc, model.as_str(), blank.as_slice(), "SELECT 1 FROM C")?;
-    assert!(rt; is_told(&long, 3, "table S.C: TooBig limit 8388608\n"));
+    assert!(rt; has_written(&long, 3, "table S.C: TooBig limit 8388608\n"));
     assert_eq!(rt; long.record.files.len(), 1);
     let spaces = vec![in alloc; b' '; 16777217]?;
     let whole = File {
@@ -139,7 +108,7 @@ fn files_that_are_too_long(rt: HostRuntime) -> Result<(), Fail> {
         bytes: spaces.as_slice(),
     };
     let ran = run(alloc, &["m", "q"], &[whole], SOUND)?;
-    assert!(rt; is_told(&ran, 3, "model: TooBig limit 16777216\n"));
+    assert!(rt; has_written(&ran, 3, "model: TooBig limit 16777216\n"));
     assert_eq!(rt; ran.record.files.len(), 0);
     Ok(())
 }
@@ -156,7 +125,7 @@ fn files_that_are_too_long_together(rt: HostRuntime) -> Result<(), Fail> {
     let mut bytes = vec![in alloc; b'\n'; 6710887]?;
     bytes.extend_from_slice(b"A:int\n")?;
     let ran = ask_file(alloc, model.as_str(), bytes.as_slice(), "SELECT 1 FROM A")?;
-    assert!(rt; is_told(&ran, 3, "table S.E: TooBig limit 6710860\n"));
+    assert!(rt; has_written(&ran, 3, "table S.E: TooBig limit 6710860\n"));
     assert_eq!(rt; ran.record.files.len(), 5);
     Ok(())
 }

@@ -1,5 +1,5 @@
 //! Statements over one inline table.
-use crate::tests::run::{ask, inline, is_told};
+use crate::tests::run::{ask, has_written, inline};
 use std::test::Fail;
 
 #[test]
@@ -93,7 +93,7 @@ fn statements_over_numbers(rt: HostRuntime) -> Result<(), Fail> {
         ("REFRESH TABLE U", 1, "refused NotAQuery\n"),
     ] {
         let ran = ask(alloc, model.as_str(), sql)?;
-        assert!(rt; is_told(&ran, status, text), "{sql}");
+        assert!(rt; has_written(&ran, status, text), "{sql}");
         assert!(rt;
             ran.record.fault.is_none() && ran.record.db.is_some() && ran.record.reply.is_some()
         );
@@ -153,7 +153,7 @@ fn values_of_all_kinds(rt: HostRuntime) -> Result<(), Fail> {
         ),
     ] {
         let ran = ask(alloc, model.as_str(), sql)?;
-        assert!(rt; is_told(&ran, status, text), "{sql}");
+        assert!(rt; has_written(&ran, status, text), "{sql}");
     }
     Ok(())
 }
@@ -176,7 +176,7 @@ fn intervals_of_a_table_without_rows(rt: HostRuntime) -> Result<(), Fail> {
         ),
     ] {
         let ran = ask(alloc, model.as_str(), sql)?;
-        assert!(rt; is_told(&ran, status, text), "{sql}");
+        assert!(rt; has_written(&ran, status, text), "{sql}");
     }
     Ok(())
 }
@@ -203,7 +203,7 @@ fn limits_of_a_text(rt: HostRuntime) -> Result<(), Fail> {
         (more.as_str(), 1, "refused TooManyOperators limit 256\n"),
     ] {
         let ran = ask(alloc, model.as_str(), sql)?;
-        assert!(rt; is_told(&ran, status, text), "{sql}");
+        assert!(rt; has_written(&ran, status, text), "{sql}");
     }
     Ok(())
 }

@@ -107,6 +107,39 @@ pub(crate) fn ask(alloc: Global, model: &str, sql: &str) -> Result<Ran, NoMemory
 }
 
 // Whether a run wrote exactly this text and ended with this status.
-pub(crate) fn is_told(ran: &Ran, status: u8, text: &str) -> bool {
+pub(crate) fn has_written(ran: &Ran, status: u8, text: &str) -> bool {
     ran.record.status == status && ran.sink.bytes().as_slice() == text.as_bytes()
+}
+
+// A table that is read from a file, with more of its operand.
+pub(crate) fn in_file(alloc: Global, name: &str, more: &str) -> Result<String, Fail> {
+    let text = format!(in alloc;
+        "{{\"name\":\"{name}\",\"factory\":\"org.apache.calcite.adapter.csv.CsvTableFactory\",\"operand\":{{\"file\":\"{name}\"{more}}}}}"
+    )?;
+    Ok(text)
+}
+
+// A run of one statement over a model and the files C and D.
+pub(crate) fn ask_files(
+    alloc: Global,
+    model: &str,
+    first: &[u8],
+    second: &[u8],
+    sql: &str,
+) -> Result<Ran, NoMemory> {
+    let files = [
+        File {
+            name: "m",
+            bytes: model.as_bytes(),
+        },
+        File {
+            name: "C",
+            bytes: first,
+        },
+        File {
+            name: "D",
+            bytes: second,
+        },
+    ];
+    run(alloc, &["m", sql], files.as_slice(), SOUND)
 }

@@ -1,5 +1,5 @@
 use Rattle.model_json.specs.ModelOf.{lattices}
-use Rattle.model_json.proofs.ItemLemmas.{Turns}
+use Rattle.model_fields.proofs.ItemLemmas.{Turns}
 use Rattle.model_json.proofs.model.each_lattices.Given as goal
 
 abbrev pub invariant-loop-number : goal.invariant-loop-number

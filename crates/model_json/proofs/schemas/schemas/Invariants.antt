@@ -1,6 +1,6 @@
 use Rattle.std.proofs.Common.{◌≤◌, length}
 use Rattle.model_json.specs.Schemas.{schema, seen, nothing_seen}
-use Rattle.model_json.proofs.ItemLemmas.{Turns}
+use Rattle.model_fields.proofs.ItemLemmas.{Turns}
 use Rattle.cal_value.specs.declared.limits.TheConstants.{TABLE_LIMIT}
 use Rattle.model_json.proofs.schemas.schemas.Given as goal
 

@@ -1,7 +1,7 @@
 use Rattle.std.proofs.Common.{rules, arith}
 use Rattle.std.proofs.lemmas.Grind.{common_steps}
 use Rattle.sql_parser.specs.ReadingList.{separated_from}
-use Rattle.sql_parser.proofs.Turns.{one_more}
+use Rattle.sql_expressions.proofs.Turns.{one_more}
 use Rattle.sql_parser.proofs.list.separated.Goals as goal
 
 pub loop-turn-preserved : goal.loop-turn-preserved

@@ -1,11 +1,12 @@
 use Rattle.std.proofs.Common.{rules, arith}
 use Rattle.std.proofs.lemmas.Grind.{common_steps}
+use Rattle.sql_expressions.specs.declared.limits.TheConstants.{NESTING_LIMIT}
 use Rattle.sql_parser.specs.ReadingSelect.{joins_from}
-use Rattle.sql_parser.proofs.Turns.{one_more}
+use Rattle.sql_expressions.proofs.Turns.{one_more}
 use Rattle.sql_parser.proofs.select.from.Goals as goal
 
 pub loop-turn-preserved : goal.loop-turn-preserved
 unfolding joins_from
 loop-turn-preserved c =
-    let e = one_more (λ n. joins_from 321 n c.loop-turn.found c.loop-turn.cursor) _ c.loop-turn._turn c.loop-turn-test.true c.loop-turn.invariant in
+    let e = one_more (λ n. joins_from NESTING_LIMIT n c.loop-turn.found c.loop-turn.cursor) _ c.loop-turn._turn c.loop-turn-test.true c.loop-turn.invariant in
     first_of (search rules, grind (arith, common_steps))

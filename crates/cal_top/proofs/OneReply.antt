@@ -1,0 +1,172 @@
+-- At most one reply is right for a text.
+use Rattle.std.proofs.Common.{◌≡◌, ◌≤◌, ◌<◌, ℕ, List, Option, Some, None, ◌⊎◌, inl, inr, sym, ap, subst, ◌∙◌, arith, refl}
+use Rattle.std.specs.Prelude.{◌≢◌}
+use Rattle.cal_schema.specs.declared.database.Db.{Db}
+use Rattle.cal_schema.specs.declared.refusal.Refusal.{Refusal}
+use Rattle.cal_schema.specs.declared.refusal.Refusal.TheVariants as refused
+use Rattle.cal_schema.specs.declared.schema.Schema.{Schema}
+use Rattle.cal_value.specs.declared.value.Value.{Value}
+use Rattle.session_lane.specs.declared.answer.Answer.{Answer}
+use Rattle.session_lane.specs.declared.reply.Cause.TheVariants.{Text}
+use Rattle.session_lane.specs.declared.reply.Reply.{Reply}
+use Rattle.session_lane.specs.declared.reply.Reply.TheVariants.{Rows, Refused}
+use Rattle.sql_parser.specs.Answers.{IsWithinLimits, IsFaultOf}
+use Rattle.sql_parser.specs.Grammar.{Spells}
+use Rattle.sql_expressions.specs.declared.fault.ParseFault.{ParseFault}
+use Rattle.sql_expressions.specs.declared.fault.ParseFault.TheVariants as parse
+use Rattle.sql_text.specs.Tokens.{HasTokens, StopsAt}
+use Rattle.sql_tree.specs.declared.select.Select.{Select}
+use Rattle.sql_tree.specs.declared.statement.Statement.{Statement}
+use Rattle.sql_tree.specs.declared.statement.Statement.TheVariants.{Select as SelectOf}
+use Rattle.sql_text.specs.declared.token.Token.{Token}
+use Rattle.sql_meaning.specs.Direct.{direct}
+use Rattle.sql_meaning.specs.Names.{output_names}
+use Rattle.sql_meaning.specs.Scope.{scope_of}
+use Rattle.cal_top.specs.Statements.{IsStatement, IsNoStatement, HasFault, refusal_in}
+use Rattle.cal_top.specs.Replies.{IsAnswered, Answers, AnswersText, TellsNoStatement, IsReplyTo}
+
+-- what is known of texts and tokens
+pub record ReadOneWay : Type 0 where
+  pub one_list : (cs : List ℕ) (ts us : List Token) → HasTokens cs ts → HasTokens cs us → us ≡ ts
+  pub never_both : (cs : List ℕ) (ts : List Token) (at : ℕ) → HasTokens cs ts → StopsAt cs at → ⊥
+  pub one_place : (cs : List ℕ) (a b : ℕ) → StopsAt cs a → StopsAt cs b → a ≡ b
+  pub one_statement : (ts : List Token) (x y : Statement) → Spells ts x → Spells ts y → x ≡ y
+
+-- ---- statements
+
+same_statement : ReadOneWay → (text : List ℕ) (x y : Statement) → IsStatement text x → IsStatement text y → x ≡ y
+same_statement way text x y p q =
+    let tokens = way.one_list text p.tokens q.tokens p.has_tokens q.has_tokens in
+    way.one_statement p.tokens x y p.spelled (subst (λ (ts : List Token). Spells ts y) tokens q.spelled)
+
+-- ---- why a text is none
+
+-- the cause of a fault of tokens
+abbrev cause_of : ParseFault → Refusal
+cause_of (parse.TooDeep limit) = refused.TooDeep limit
+cause_of (parse.TooManyOperators limit) = refused.TooManyOperators limit
+cause_of parse.NotSql = refused.NotSql
+cause_of parse.NoMemory = refused.NoMemory
+
+record Stopped (text : List ℕ) (cause : Refusal) : Type 0 where
+  place : ℕ
+  is : cause ≡ refused.NotToken place
+  stops : StopsAt text place
+
+record Faulty (text : List ℕ) (cause : Refusal) : Type 0 where
+  fault : ParseFault
+  other : fault ≢ parse.NoMemory
+  is : cause ≡ cause_of fault
+  has : HasFault text fault
+
+deep_other : (limit : ℕ) → parse.TooDeep limit ≢ parse.NoMemory
+deep_other limit e = Prim.cc
+
+many_other : (limit : ℕ) → parse.TooManyOperators limit ≢ parse.NoMemory
+many_other limit e = Prim.cc
+
+not_sql_other : parse.NotSql ≢ parse.NoMemory
+not_sql_other e = Prim.cc
+
+why : (text : List ℕ) (cause : Refusal) → IsNoStatement text cause → Stopped text cause ⊎ Faulty text cause
+why text (refused.NotToken at) is = inl (record { place = at; is = refl; stops = is })
+why text (refused.TooDeep limit) is = inr (record { fault = parse.TooDeep limit; other = deep_other limit; is = refl; has = is })
+why text (refused.TooManyOperators limit) is = inr (record { fault = parse.TooManyOperators limit; other = many_other limit; is = refl; has = is })
+why text refused.NotSql is = inr (record { fault = parse.NotSql; other = not_sql_other; is = refl; has = is })
+why text refused.NotAQuery is = absurd is
+why text refused.NotYet is = absurd is
+why text (refused.UnknownTable name) is = absurd is
+why text (refused.UnknownColumn name) is = absurd is
+why text (refused.TypeClash place) is = absurd is
+why text (refused.MayNotFit place lo hi) is = absurd is
+why text refused.NoMemory is = absurd is
+
+same_cause : (ts : List Token) (f g : ParseFault) → f ≢ parse.NoMemory → g ≢ parse.NoMemory → IsFaultOf ts f → IsFaultOf ts g → cause_of f ≡ cause_of g
+same_cause ts parse.NoMemory g u v p q = absurd (u refl)
+same_cause ts (parse.TooDeep m) parse.NoMemory u v p q = absurd (v refl)
+same_cause ts (parse.TooManyOperators m) parse.NoMemory u v p q = absurd (v refl)
+same_cause ts parse.NotSql parse.NoMemory u v p q = absurd (v refl)
+same_cause ts (parse.TooDeep m) (parse.TooDeep n) u v p q = ap (λ (l : ℕ). refused.TooDeep l) (p.0 ∙ sym q.0)
+same_cause ts (parse.TooDeep m) (parse.TooManyOperators n) u v p q = absurd (omega (arith, p.1, q.1))
+same_cause ts (parse.TooDeep m) parse.NotSql u v p q = absurd (omega (arith, p.1, q.0.brackets))
+same_cause ts (parse.TooManyOperators m) (parse.TooDeep n) u v p q = absurd (omega (arith, p.1, q.1))
+same_cause ts (parse.TooManyOperators m) (parse.TooManyOperators n) u v p q = ap (λ (l : ℕ). refused.TooManyOperators l) (p.0 ∙ sym q.0)
+same_cause ts (parse.TooManyOperators m) parse.NotSql u v p q = absurd (omega (arith, p.3, q.0.few p.2))
+same_cause ts parse.NotSql (parse.TooDeep n) u v p q = absurd (omega (arith, q.1, p.0.brackets))
+same_cause ts parse.NotSql (parse.TooManyOperators n) u v p q = absurd (omega (arith, q.3, p.0.few q.2))
+same_cause ts parse.NotSql parse.NotSql u v p q = refl
+
+no_fault : (ts : List Token) (f : ParseFault) (x : Statement) → f ≢ parse.NoMemory → IsFaultOf ts f → IsWithinLimits ts → Spells ts x → ⊥
+no_fault ts (parse.TooDeep m) x u p within spelled = omega (arith, p.1, within.brackets)
+no_fault ts (parse.TooManyOperators m) x u p within spelled = omega (arith, p.3, within.few p.2)
+no_fault ts parse.NotSql x u p within spelled = p.1 x spelled
+no_fault ts parse.NoMemory x u p within spelled = u refl
+
+same_refusal : ReadOneWay → (text : List ℕ) (a b : Refusal) → IsNoStatement text a → IsNoStatement text b → a ≡ b
+same_refusal way text a b p q = both (why text a p) (why text b q)
+  where
+    both : Stopped text a ⊎ Faulty text a → Stopped text b ⊎ Faulty text b → a ≡ b
+    both (inl s) (inl t) = s.is ∙ ap (λ (n : ℕ). refused.NotToken n) (way.one_place text s.place t.place s.stops t.stops) ∙ sym t.is
+    both (inl s) (inr t) = absurd (way.never_both text t.has.tokens s.place t.has.has_tokens s.stops)
+    both (inr s) (inl t) = absurd (way.never_both text s.has.tokens t.place s.has.has_tokens t.stops)
+    both (inr s) (inr t) =
+        let tokens = way.one_list text s.has.tokens t.has.tokens s.has.has_tokens t.has.has_tokens in
+        s.is ∙ same_cause s.has.tokens s.fault t.fault s.other t.other s.has.is_fault (subst (λ (ts : List Token). IsFaultOf ts t.fault) tokens t.has.is_fault) ∙ sym t.is
+
+never_both : ReadOneWay → (text : List ℕ) (x : Statement) (a : Refusal) → IsStatement text x → IsNoStatement text a → ⊥
+never_both way text x a p q = by_why (why text a q)
+  where
+    by_why : Stopped text a ⊎ Faulty text a → ⊥
+    by_why (inl s) = way.never_both text p.tokens s.place p.has_tokens s.stops
+    by_why (inr s) =
+        let tokens = way.one_list text s.has.tokens p.tokens s.has.has_tokens p.has_tokens in
+        no_fault s.has.tokens s.fault x s.other s.has.is_fault (subst (λ (ts : List Token). IsWithinLimits ts) tokens p.within) (subst (λ (ts : List Token). Spells ts x) tokens p.spelled)
+
+-- ---- replies
+
+select_same : (a b : Select) → SelectOf a ≡ SelectOf b → a ≡ b
+select_same a b e = Prim.cc
+
+some_same : (a b : Refusal) → Some a ≡ Some b → a ≡ b
+some_same a b e = Prim.cc
+
+none_some : (a : Refusal) → None ≡ Some a → ⊥
+none_some a e = Prim.cc
+
+same_rows : (schema : Schema) (db : Db) (s : Statement) (at at' : ℕ) (names names' : List (List ℕ)) (rows rows' : List (List Value))
+    → IsAnswered schema db s at names rows → IsAnswered schema db s at' names' rows'
+    → Rows at names (record { rows = rows }) ≡ Rows at' names' (record { rows = rows' })
+same_rows schema db s at at' names names' rows rows' p q =
+    let select = select_same p.select q.select (sym p.is_select ∙ q.is_select) in
+    let place : at ≡ at' = p.place ∙ sym q.place in
+    let names_same : names ≡ names' = p.names_are ∙ ap (λ (x : Select). output_names (scope_of schema x) x.items) select ∙ sym q.names_are in
+    let rows_same : rows ≡ rows' = p.rows_are ∙ ap (λ (x : Select). direct x schema db) select ∙ sym q.rows_are in
+    ap (λ (n : ℕ). Rows n names (record { rows = rows })) place
+    ∙ ap (λ (ns : List (List ℕ)). Rows at' ns (record { rows = rows })) names_same
+    ∙ ap (λ (rs : List (List Value)). Rows at' names' (record { rows = rs })) rows_same
+
+same_refused : (at at' : Option ℕ) (a b : Refusal) → at ≡ None → at' ≡ None → a ≡ b → Refused at (Text a) ≡ Refused at' (Text b)
+same_refused at at' a b p q e = ap (λ (x : Option ℕ). Refused x (Text a)) (p ∙ sym q) ∙ ap (λ (c : Refusal). Refused at' (Text c)) e
+
+same_answer : (schema : Schema) (db : Db) (s : Statement) (a b : Reply) → Answers schema db s a → Answers schema db s b → a ≡ b
+same_answer schema db s (Rows at names answer) (Rows at' names' answer') p q = same_rows schema db s at at' names names' answer.rows answer'.rows p q
+same_answer schema db s (Rows at names answer) (Refused at' (Text c)) p q = absurd (none_some c (sym p.accepted ∙ q.1))
+same_answer schema db s (Refused at (Text c)) (Rows at' names' answer') p q = absurd (none_some c (sym q.accepted ∙ p.1))
+same_answer schema db s (Refused at (Text c)) (Refused at' (Text c')) p q = same_refused at at' c c' p.0 q.0 (some_same c c' (sym p.1 ∙ q.1))
+
+same_none : ReadOneWay → (text : List ℕ) (a b : Reply) → TellsNoStatement text a → TellsNoStatement text b → a ≡ b
+same_none way text (Rows at names answer) b p q = absurd p
+same_none way text (Refused at (Text c)) (Rows at' names' answer') p q = absurd q
+same_none way text (Refused at (Text c)) (Refused at' (Text c')) p q = same_refused at at' c c' p.0 q.0 (same_refusal way text c c' p.1 q.1)
+
+not_both : ReadOneWay → (text : List ℕ) (x : Statement) (b : Reply) → IsStatement text x → TellsNoStatement text b → ⊥
+not_both way text x (Rows at names answer) p q = q
+not_both way text x (Refused at (Text c)) p q = never_both way text x c p q.1
+
+pub one_reply : ReadOneWay → (schema : Schema) (db : Db) (text : List ℕ) (a b : Reply) → IsReplyTo schema db text a → IsReplyTo schema db text b → a ≡ b
+one_reply way schema db text a b (inl p) (inl q) =
+    let s = same_statement way text q.statement p.statement q.is_statement p.is_statement in
+    same_answer schema db p.statement a b p.answers (subst (λ (x : Statement). Answers schema db x b) s q.answers)
+one_reply way schema db text a b (inl p) (inr q) = absurd (not_both way text p.statement b p.is_statement q)
+one_reply way schema db text a b (inr p) (inl q) = absurd (not_both way text q.statement a q.is_statement p)
+one_reply way schema db text a b (inr p) (inr q) = same_none way text a b p q

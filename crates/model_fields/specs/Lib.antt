@@ -1,0 +1,5 @@
+pub mod KeyItems
+pub mod Kinds
+pub mod Reading
+pub mod Rows
+pub use Rattle.cal_schema.specs.Column

@@ -1,5 +1,0 @@
-use Rattle.model_json.proofs.RowLemmas.{KeysRead}
-use Rattle.model_json.proofs.rows.all_apart.Given as goal
-
-abbrev pub invariant-loop-number : goal.invariant-loop-number
-invariant-loop-number l = KeysRead l.key l.rows l.keys.keys l.number

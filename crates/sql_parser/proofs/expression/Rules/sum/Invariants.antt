@@ -1,7 +1,0 @@
-use Rattle.std.proofs.Common.{◌≡◌, ◌-◌}
-use Rattle.sql_parser.specs.declared.expression.Level.TheVariants as level
-use Rattle.sql_parser.specs.Reading.{sum, term, chain_from, reads_part}
-use Rattle.sql_parser.proofs.expression.Rules.sum.Given as goal
-
-abbrev pub invariant-loop-turn : goal.invariant-loop-turn
-invariant-loop-turn g l = sum (reads_part l.self.depth) l.fn.cursor ≡ chain_from level.Sum (term (reads_part l.self.depth)) (l._turn-end - l._turn) l.left l.cursor
