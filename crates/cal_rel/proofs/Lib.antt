@@ -1,0 +1,15 @@
+pub mod Counts
+pub mod InRange
+pub mod Keys
+pub mod MoreLaws
+pub mod Narrower
+pub mod Renumbered
+pub mod Reorders
+pub mod Replaced
+pub mod RowLemmas
+pub mod SameBags
+pub mod Stars
+pub mod Totals
+pub mod TreeSteps
+pub mod TrueTypes
+pub mod TypeSteps

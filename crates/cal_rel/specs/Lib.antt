@@ -1,0 +1,15 @@
+pub mod Bag
+pub mod Equal
+pub mod EqualLaws
+pub mod Examples
+pub mod Holes
+pub mod Info
+pub mod Meaning
+pub mod Operators
+pub mod Parts
+pub mod Places
+pub mod Ranges
+pub mod RelType
+pub mod Tiles
+pub mod Tree
+pub mod Typing
