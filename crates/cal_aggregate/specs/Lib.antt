@@ -1,3 +1,4 @@
 pub mod Aggregate
 pub mod Combine
+pub mod Parts
 pub mod ResultType

@@ -19,8 +19,8 @@ pub use bag::{is_in_order, same_bag};
 pub use interval::{Interval, cut_at_limit, cut_product};
 pub use kind::{Kind, SqlType, has_types};
 pub use limits::{
-    BRACKET_LIMIT, BUDGET_LIMIT, COLUMN_LIMIT, FILE_LIMIT, FILES_LIMIT, MODEL_LIMIT, NAME_LIMIT,
-    NUMBER_LIMIT, OPERATOR_LIMIT, ROW_LIMIT, TABLE_LIMIT, TEXT_LIMIT,
+    BRACKET_LIMIT, BUDGET_LIMIT, COLUMN_LIMIT, FILE_LIMIT, FILES_LIMIT, FROM_LIMIT, MODEL_LIMIT,
+    NAME_LIMIT, NUMBER_LIMIT, OPERATOR_LIMIT, ROW_LIMIT, TABLE_LIMIT, TEXT_LIMIT,
 };
 pub use list::List;
 pub use logic::{and3, not3, or3};

@@ -15,6 +15,9 @@ pub const TABLE_LIMIT: u32 = 64;
 /// How many columns a table may have.
 pub const COLUMN_LIMIT: u32 = 32;
 
+/// How many entries FROM may have.
+pub const FROM_LIMIT: u32 = 8;
+
 /// How many rows a table may have, where its model says nothing less.
 pub const ROW_LIMIT: u64 = 1_048_576;
 

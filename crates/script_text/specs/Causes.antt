@@ -20,6 +20,9 @@ written_text w = qualifier_text w.qualifier ++ name_text w.name
 abbrev pub misfit_text : ℕ → ℤ → ℤ → List ℕ
 misfit_text place lo hi = (codes "MayNotFit place " ++ decimal place) ++ ((codes " lo " ++ number_text lo) ++ (codes " hi " ++ number_text hi))
 
+abbrev pub bad_row_text : ℕ → ℕ → List ℕ
+bad_row_text row column = (codes "BadRow row " ++ decimal row) ++ (codes " column " ++ decimal column)
+
 abbrev pub refusal_text : Refusal → List ℕ
 refusal_text (refused.NotToken at) = codes "NotToken at " ++ decimal at
 refusal_text (refused.TooDeep limit) = codes "TooDeep limit " ++ decimal limit
@@ -28,9 +31,17 @@ refusal_text refused.NotSql = codes "NotSql"
 refusal_text refused.NotAQuery = codes "NotAQuery"
 refusal_text refused.NotYet = codes "NotYet"
 refusal_text (refused.UnknownTable name) = codes "UnknownTable name " ++ written_text name
+refusal_text (refused.UnknownLattice name) = codes "UnknownLattice name " ++ written_text name
+refusal_text (refused.TooManyTables limit) = codes "TooManyTables limit " ++ decimal limit
 refusal_text (refused.UnknownColumn name) = codes "UnknownColumn name " ++ written_text name
+refusal_text (refused.Ambiguous name) = codes "Ambiguous name " ++ written_text name
 refusal_text (refused.TypeClash place) = codes "TypeClash place " ++ decimal place
+refusal_text (refused.AggregateMisplaced place) = codes "AggregateMisplaced place " ++ decimal place
+refusal_text (refused.NotGrouped place) = codes "NotGrouped place " ++ decimal place
+refusal_text (refused.OrderKey place) = codes "OrderKey place " ++ decimal place
 refusal_text (refused.MayNotFit place lo hi) = misfit_text place lo hi
+refusal_text (refused.BadRow row column) = bad_row_text row column
+refusal_text refused.NotRefreshable = codes "NotRefreshable"
 refusal_text refused.NoMemory = codes "NoMemory"
 
 abbrev pub csv_cause_text : CsvCause → List ℕ

@@ -73,6 +73,13 @@ fn push_misfit(out: &mut String, place: u64, lo: i128, hi: i128) -> Result<(), N
     push_numbered(out, " hi ", hi)
 }
 
+fn push_bad_row(out: &mut String, row: u64, column: u32) -> Result<(), NoMemory>
+    ensures { OnOk result (string_bytes out.new ≡ string_bytes out.old ++ spec.bad_row_text row column) }
+{
+    push_counted(out, "BadRow row ", row)?;
+    push_counted(out, " column ", column as u64)
+}
+
 /// Adds the text of a cause: its name, then each field with its name and its value.
 pub fn push_refusal(out: &mut String, refusal: &Refusal) -> Result<(), NoMemory>
     ensures { OnOk result (string_bytes out.new ≡ string_bytes out.old ++ spec.refusal_text refusal.now) }
@@ -87,9 +94,21 @@ pub fn push_refusal(out: &mut String, refusal: &Refusal) -> Result<(), NoMemory>
         Refusal::NotAQuery => push_text(out, "NotAQuery"),
         Refusal::NotYet => push_text(out, "NotYet"),
         Refusal::UnknownTable { name } => push_named(out, "UnknownTable name ", name),
+        Refusal::UnknownLattice { name } => push_named(out, "UnknownLattice name ", name),
+        Refusal::TooManyTables { limit } => {
+            push_counted(out, "TooManyTables limit ", *limit as u64)
+        }
         Refusal::UnknownColumn { name } => push_named(out, "UnknownColumn name ", name),
+        Refusal::Ambiguous { name } => push_named(out, "Ambiguous name ", name),
         Refusal::TypeClash { place } => push_counted(out, "TypeClash place ", *place),
+        Refusal::AggregateMisplaced { place } => {
+            push_counted(out, "AggregateMisplaced place ", *place)
+        }
+        Refusal::NotGrouped { place } => push_counted(out, "NotGrouped place ", *place),
+        Refusal::OrderKey { place } => push_counted(out, "OrderKey place ", *place),
         Refusal::MayNotFit { place, lo, hi } => push_misfit(out, *place, *lo, *hi),
+        Refusal::BadRow { row, column } => push_bad_row(out, *row, *column),
+        Refusal::NotRefreshable => push_text(out, "NotRefreshable"),
         Refusal::NoMemory => push_text(out, "NoMemory"),
     }
 }
