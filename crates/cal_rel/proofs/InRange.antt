@@ -20,12 +20,12 @@ use Rattle.cal_value.proofs.TypeLemmas.{and-both, number_type-is, split_if}
 use Rattle.cal_aggregate.specs.ResultType.{agg_type, counts, sums, with_zero}
 use Rattle.cal_expr.specs.Typing as expressions
 use Rattle.cal_expr.proofs.Ranges.{in_range}
-use Rattle.cal_rel.specs.declared.agg_call.AggCall.{AggCall}
+use Rattle.cal_schema.specs.declared.agg_call.AggCall.{AggCall}
 use Rattle.cal_schema.specs.declared.column.ColumnDef.{ColumnDef}
 use Rattle.cal_schema.specs.declared.database.Db.{Db}
-use Rattle.cal_rel.specs.declared.join_kind.JoinKind.{JoinKind}
-use Rattle.cal_rel.specs.declared.join_kind.JoinKind.TheVariants.{Inner, Left}
-use Rattle.cal_rel.specs.declared.rel_type.RelType.{RelType}
+use Rattle.cal_schema.specs.declared.join_kind.JoinKind.{JoinKind}
+use Rattle.cal_schema.specs.declared.join_kind.JoinKind.TheVariants.{Inner, Left}
+use Rattle.cal_schema.specs.declared.rel_type.RelType.{RelType}
 use Rattle.cal_schema.specs.declared.table.TableDef.{TableDef}
 use Rattle.cal_schema.specs.declared.tile.TileInfo.{TileInfo}
 use Rattle.cal_schema.specs.declared.tile.TileKey.{TileKey}

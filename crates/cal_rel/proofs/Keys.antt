@@ -20,7 +20,7 @@ use Rattle.cal_expr.specs.declared.expr.Expr.TheFolds.{fold-roll-Expr, ind-Expr,
 use Rattle.cal_expr.specs.declared.expr.Expr.TheOpen.{Expr-F}
 use Rattle.cal_expr.specs.declared.expr.Expr.TheViews.{roll-Expr}
 use Rattle.cal_expr.specs.Meaning.{meaning_of, meaning_step, applied}
-use Rattle.cal_rel.specs.declared.star_pair.StarPair.{StarPair}
+use Rattle.cal_schema.specs.declared.star_pair.StarPair.{StarPair}
 use Rattle.cal_rel.specs.Operators.{Row, holds, partners}
 use Rattle.cal_rel.specs.Typing.{Equated, pair_of, equated_op, equated_step, equated, pairs_of, is_among}
 use Rattle.cal_rel.proofs.Totals.{total, total-filter, total-map, total-flat_map, total-ext, total-plus, total-one}

@@ -5,8 +5,8 @@ use Rattle.cal_value.specs.Order.{SameBag}
 use Rattle.cal_value.specs.Types.{HasTypes}
 use Rattle.cal_value.proofs.BagLemmas.{IsPermutation-from_SameBag}
 use Rattle.cal_value.proofs.TypeLaws.{wider-has_types}
-use Rattle.cal_rel.specs.declared.rel_type.RelType.{RelType}
-use Rattle.cal_rel.specs.RelType.{IsTrueOf, IsWithin}
+use Rattle.cal_schema.specs.declared.rel_type.RelType.{RelType}
+use Rattle.cal_schema.specs.RelType.{IsTrueOf, IsWithin}
 use Rattle.cal_rel.specs.Holes.{EachHole}
 use Rattle.cal_rel.specs.Info.{Info, set_at}
 use Rattle.cal_rel.specs.Operators.{Row}

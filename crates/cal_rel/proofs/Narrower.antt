@@ -22,17 +22,17 @@ use Rattle.cal_aggregate.proofs.AggregateLaws.{agg_type-narrower, agg_type-prope
 use Rattle.cal_expr.specs.declared.expr.Expr.{Expr}
 use Rattle.cal_expr.specs.Typing as expressions
 use Rattle.cal_expr.proofs.Narrower.{type_of-narrower}
-use Rattle.cal_rel.specs.declared.agg_call.AggCall.{AggCall}
+use Rattle.cal_schema.specs.declared.agg_call.AggCall.{AggCall}
 use Rattle.cal_schema.specs.declared.column.ColumnDef.{ColumnDef}
-use Rattle.cal_rel.specs.declared.join_kind.JoinKind.{JoinKind}
-use Rattle.cal_rel.specs.declared.join_kind.JoinKind.TheVariants.{Inner, Left}
-use Rattle.cal_rel.specs.declared.rel_type.RelType.{RelType}
+use Rattle.cal_schema.specs.declared.join_kind.JoinKind.{JoinKind}
+use Rattle.cal_schema.specs.declared.join_kind.JoinKind.TheVariants.{Inner, Left}
+use Rattle.cal_schema.specs.declared.rel_type.RelType.{RelType}
 use Rattle.cal_schema.specs.declared.table.TableDef.{TableDef}
 use Rattle.cal_schema.specs.declared.tile.TileInfo.{TileInfo}
 use Rattle.cal_schema.specs.declared.tile.TileKey.{TileKey}
 use Rattle.cal_schema.specs.Column.{is_word, type_named, short_type, int_type, long_type}
 use Rattle.cal_schema.specs.Fits.{types_of}
-use Rattle.cal_rel.specs.RelType.{IsWithin}
+use Rattle.cal_schema.specs.RelType.{IsWithin}
 use Rattle.cal_schema.specs.Valid.{IsColumnType, IsValidTable, IsValidSchema}
 use Rattle.cal_rel.specs.Holes.{renumbered, HasWithin, Narrows}
 use Rattle.cal_rel.specs.Info.{Info, set_at}

@@ -4,7 +4,7 @@ use mathlib.Core.Path.{ap₂}
 use Rattle.std.specs.Prelude.{option_map, unwrap_or}
 use Rattle.std.specs.Option.{option_and_then}
 use Rattle.cal_schema.specs.declared.database.Db.{Db}
-use Rattle.cal_rel.specs.declared.rel_type.RelType.{RelType}
+use Rattle.cal_schema.specs.declared.rel_type.RelType.{RelType}
 use Rattle.cal_schema.specs.declared.schema.Schema.{Schema}
 use Rattle.cal_schema.specs.declared.tile.TileInfo.{TileInfo}
 use Rattle.cal_rel.specs.Bag.{bag, width, leaf_width, leaf_bag, unary_width, unary_bag, binary_bag, set_width}

@@ -2,7 +2,7 @@
 use Rattle.std.proofs.Common.{◌≡◌, ℕ, ◌+◌, ◌<◌, Bool, true, false, cond, not, List, [], ◌∷◌, map, filter, refl, sym, ◌∙◌, ap, subst, arith}
 use mathlib.Core.Path.{ap₂}
 use Rattle.std.specs.Bool.{Decides}
-use Rattle.cal_rel.specs.Parts.{Part, members, parts}
+use Rattle.cal_aggregate.specs.Parts.{Part, members, parts}
 use Rattle.cal_rel.proofs.Totals.{total, Weighs}
 
 pub data Reordered {A : Type 0} : List A → List A → Type 0 where

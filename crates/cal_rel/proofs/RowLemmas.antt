@@ -10,7 +10,7 @@ use Rattle.cal_value.specs.declared.order.KeyOrder.{KeyOrder}
 use Rattle.cal_value.specs.declared.value.Value.{Value}
 use Rattle.cal_value.specs.declared.value.Value.TheVariants.{Null, Bool as BoolValue, Int, Text}
 use Rattle.cal_value.specs.Order.{column_of, row_cmp}
-use Rattle.cal_rel.specs.Parts.{Part, members, parts}
+use Rattle.cal_aggregate.specs.Parts.{Part, members, parts}
 use Rattle.cal_value.specs.Types.{IsOfType, HasTypes}
 use Rattle.cal_rel.specs.Operators.{Row}
 use Rattle.cal_rel.specs.Tiles.{inserted, sorted}

@@ -9,14 +9,14 @@ use Rattle.cal_value.specs.declared.value.Value.TheVariants.{Null, Int}
 use Rattle.cal_value.specs.Equal.{value_eq, row_eq}
 use Rattle.cal_value.specs.EqualLaws.{value_eq-Decides, row_eq-Decides}
 use Rattle.cal_value.specs.Order.{SameBag, column_of, columns_of}
-use Rattle.cal_rel.specs.Parts.{members, parts}
+use Rattle.cal_aggregate.specs.Parts.{members, parts}
 use Rattle.cal_aggregate.proofs.AggregateFolds.{aggregated-IsPermutation}
 use Rattle.cal_value.proofs.BagLemmas.{IsPermutation-from_counts}
 use Rattle.cal_expr.specs.declared.expr.Expr.{Expr}
-use Rattle.cal_rel.specs.declared.agg_call.AggCall.{AggCall}
+use Rattle.cal_schema.specs.declared.agg_call.AggCall.{AggCall}
 use Rattle.cal_schema.specs.declared.database.Db.{Db}
-use Rattle.cal_rel.specs.declared.join_kind.JoinKind.{JoinKind}
-use Rattle.cal_rel.specs.declared.join_kind.JoinKind.TheVariants.{Inner, Left}
+use Rattle.cal_schema.specs.declared.join_kind.JoinKind.{JoinKind}
+use Rattle.cal_schema.specs.declared.join_kind.JoinKind.TheVariants.{Inner, Left}
 use Rattle.cal_rel.specs.Bag.{bag, width, unary_bag, binary_bag, leaf_bag}
 use Rattle.cal_rel.specs.Holes.{EachHole}
 use Rattle.cal_rel.specs.Info.{Info}

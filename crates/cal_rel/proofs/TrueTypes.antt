@@ -13,7 +13,7 @@ use Rattle.cal_value.specs.declared.value.Value.TheVariants.{Null, Int}
 use Rattle.cal_aggregate.specs.ResultType.{counts, agg_type}
 use Rattle.cal_value.specs.Interval.{limit}
 use Rattle.cal_value.specs.Order.{column_of, columns_of}
-use Rattle.cal_rel.specs.Parts.{Part, members, parts}
+use Rattle.cal_aggregate.specs.Parts.{Part, members, parts}
 use Rattle.cal_value.specs.Types.{IsOfType, HasTypes, integer_type}
 use Rattle.cal_aggregate.proofs.AggregateTyped.{aggregated-typed}
 use Rattle.cal_aggregate.proofs.SumLemmas.{counts-holds}
@@ -22,16 +22,16 @@ use Rattle.cal_expr.specs.declared.expr.Expr.{Expr}
 use Rattle.cal_expr.specs.Meaning.{meaning_of}
 use Rattle.cal_expr.specs.Typing as expressions
 use Rattle.cal_expr.proofs.Typed.{meaning-typed}
-use Rattle.cal_rel.specs.declared.agg_call.AggCall.{AggCall}
+use Rattle.cal_schema.specs.declared.agg_call.AggCall.{AggCall}
 use Rattle.cal_schema.specs.declared.database.Db.{Db}
-use Rattle.cal_rel.specs.declared.join_kind.JoinKind.{JoinKind}
-use Rattle.cal_rel.specs.declared.join_kind.JoinKind.TheVariants.{Inner, Left}
-use Rattle.cal_rel.specs.declared.rel_type.RelType.{RelType}
+use Rattle.cal_schema.specs.declared.join_kind.JoinKind.{JoinKind}
+use Rattle.cal_schema.specs.declared.join_kind.JoinKind.TheVariants.{Inner, Left}
+use Rattle.cal_schema.specs.declared.rel_type.RelType.{RelType}
 use Rattle.cal_schema.specs.declared.table.TableDef.{TableDef}
 use Rattle.cal_schema.specs.declared.tile.TileInfo.{TileInfo}
 use Rattle.cal_schema.specs.declared.tile.TileKey.{TileKey}
 use Rattle.cal_schema.specs.Fits.{key_of, IsFilledBy, AreFilledBy, Fits}
-use Rattle.cal_rel.specs.RelType.{IsTrueOf}
+use Rattle.cal_schema.specs.RelType.{IsTrueOf}
 use Rattle.cal_rel.specs.Bag.{bag, width, leaf_width, unary_width, table_width, tile_width, leaf_bag, unary_bag, binary_bag, rows_of_tile}
 use Rattle.cal_rel.specs.Info.{Info, Star}
 use Rattle.cal_rel.specs.Meaning.{AreTrueOf}

@@ -18,9 +18,9 @@ use Rattle.cal_value.specs.declared.operator.Agg.{Agg}
 use Rattle.cal_value.specs.declared.operator.Agg.TheVariants.{Count, Sum, Sum0, Min, Max}
 use Rattle.cal_expr.specs.Equal.{expr_eq}
 use Rattle.cal_expr.specs.EqualLaws.{expr_eq-Decides}
-use Rattle.cal_rel.specs.declared.agg_call.AggCall.{AggCall}
-use Rattle.cal_rel.specs.declared.join_kind.JoinKind.{JoinKind}
-use Rattle.cal_rel.specs.declared.join_kind.JoinKind.TheVariants.{Inner, Left}
+use Rattle.cal_schema.specs.declared.agg_call.AggCall.{AggCall}
+use Rattle.cal_schema.specs.declared.join_kind.JoinKind.{JoinKind}
+use Rattle.cal_schema.specs.declared.join_kind.JoinKind.TheVariants.{Inner, Left}
 use Rattle.cal_rel.specs.declared.rel.Rel.{Rel}
 use Rattle.cal_rel.specs.declared.rel.Rel.TheOpen.{Rel-F}
 use Rattle.cal_rel.specs.declared.rel.Rel.TheViews.{out-Rel, roll-Rel, out-roll-Rel, roll-out-Rel}

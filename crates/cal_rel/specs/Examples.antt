@@ -7,9 +7,9 @@ use Rattle.cal_value.specs.declared.value.Value.{Value}
 use Rattle.cal_value.specs.declared.value.Value.TheVariants.{Null, Int}
 use Rattle.cal_value.specs.Types.{integer_type}
 use Rattle.cal_expr.specs.declared.expr.Expr.{Expr}
-use Rattle.cal_rel.specs.declared.agg_call.AggCall.{AggCall}
+use Rattle.cal_schema.specs.declared.agg_call.AggCall.{AggCall}
 use Rattle.cal_schema.specs.declared.database.Db.{Db}
-use Rattle.cal_rel.specs.declared.join_kind.JoinKind.TheVariants.{Inner, Left}
+use Rattle.cal_schema.specs.declared.join_kind.JoinKind.TheVariants.{Inner, Left}
 use Rattle.cal_schema.specs.declared.tile.TileKey.{TileKey}
 use Rattle.cal_rel.specs.Bag.{bag}
 use Rattle.cal_rel.specs.Info.{Info, Star}

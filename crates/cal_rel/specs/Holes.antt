@@ -1,7 +1,7 @@
 -- Other sets in the holes of a tree, trees in their places, and what holds of each.
 use Rattle.std.specs.Prelude.{◌≡◌, ℕ, Option, Some, ⊤}
-use Rattle.cal_rel.specs.declared.rel_type.RelType.{RelType}
-use Rattle.cal_rel.specs.RelType.{IsWithin}
+use Rattle.cal_schema.specs.declared.rel_type.RelType.{RelType}
+use Rattle.cal_schema.specs.RelType.{IsWithin}
 use Rattle.cal_rel.specs.Info.{Info, set_at}
 use Rattle.cal_rel.specs.Tree.{Tree, leaf, unary, binary, hole}
 

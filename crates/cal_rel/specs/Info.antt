@@ -1,6 +1,6 @@
 -- What a tree is read over.
 use Rattle.std.specs.Prelude.{ℕ, List, [], Option, None, slice_get, unwrap_or}
-use Rattle.cal_rel.specs.declared.rel_type.RelType.{RelType}
+use Rattle.cal_schema.specs.declared.rel_type.RelType.{RelType}
 use Rattle.cal_schema.specs.declared.schema.Schema.{Schema}
 use Rattle.cal_schema.specs.declared.tile.TileInfo.{TileInfo}
 

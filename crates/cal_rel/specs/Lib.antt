@@ -6,10 +6,8 @@ pub mod Holes
 pub mod Info
 pub mod Meaning
 pub mod Operators
-pub mod Parts
 pub mod Places
 pub mod Ranges
-pub mod RelType
 pub mod Tiles
 pub mod Tree
 pub mod Typing

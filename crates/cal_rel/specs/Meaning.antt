@@ -2,9 +2,9 @@
 use Rattle.std.specs.Prelude.{◌≡◌, ℕ, List, Option, Some}
 use Rattle.cal_value.specs.Order.{SameBag}
 use Rattle.cal_schema.specs.declared.database.Db.{Db}
-use Rattle.cal_rel.specs.declared.rel_type.RelType.{RelType}
+use Rattle.cal_schema.specs.declared.rel_type.RelType.{RelType}
 use Rattle.cal_schema.specs.Fits.{Fits}
-use Rattle.cal_rel.specs.RelType.{IsTrueOf}
+use Rattle.cal_schema.specs.RelType.{IsTrueOf}
 use Rattle.cal_rel.specs.Bag.{bag, width}
 use Rattle.cal_rel.specs.Info.{Info, set_at}
 use Rattle.cal_rel.specs.Operators.{Row}

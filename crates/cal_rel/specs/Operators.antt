@@ -7,12 +7,12 @@ use Rattle.cal_aggregate.specs.Aggregate.{aggregated}
 use Rattle.cal_value.specs.Equal.{row_eq}
 use Rattle.cal_value.specs.Logic.{is_true}
 use Rattle.cal_value.specs.Order.{column_of, columns_of}
-use Rattle.cal_rel.specs.Parts.{members, parts}
+use Rattle.cal_aggregate.specs.Parts.{members, parts}
 use Rattle.cal_expr.specs.declared.expr.Expr.{Expr}
 use Rattle.cal_expr.specs.Meaning.{meaning_of}
-use Rattle.cal_rel.specs.declared.agg_call.AggCall.{AggCall}
-use Rattle.cal_rel.specs.declared.join_kind.JoinKind.{JoinKind}
-use Rattle.cal_rel.specs.declared.join_kind.JoinKind.TheVariants.{Inner, Left}
+use Rattle.cal_schema.specs.declared.agg_call.AggCall.{AggCall}
+use Rattle.cal_schema.specs.declared.join_kind.JoinKind.{JoinKind}
+use Rattle.cal_schema.specs.declared.join_kind.JoinKind.TheVariants.{Inner, Left}
 
 abbrev pub Row : Type 0
 Row = List Value

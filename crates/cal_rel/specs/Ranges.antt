@@ -5,7 +5,7 @@ use Rattle.cal_value.specs.declared.kind.SqlType.{SqlType}
 use Rattle.cal_value.specs.declared.value.Value.{Value}
 use Rattle.cal_value.specs.declared.value.Value.TheVariants.{Null, Bool as BoolValue, Int, Text}
 use Rattle.cal_value.specs.Interval.{is_in_range, is_number}
-use Rattle.cal_rel.specs.declared.rel_type.RelType.{RelType}
+use Rattle.cal_schema.specs.declared.rel_type.RelType.{RelType}
 use Rattle.cal_rel.specs.Info.{set_at}
 
 -- the ends of an interval of numbers are numbers of SQL

@@ -4,7 +4,7 @@ use Rattle.std.specs.List.{filter_map, range_with_len}
 use Rattle.std.specs.Ordering.{is_le}
 use Rattle.cal_value.specs.declared.order.KeyOrder.{KeyOrder}
 use Rattle.cal_value.specs.Order.{row_cmp}
-use Rattle.cal_rel.specs.declared.agg_call.AggCall.{AggCall}
+use Rattle.cal_schema.specs.declared.agg_call.AggCall.{AggCall}
 use Rattle.cal_schema.specs.declared.database.Db.{Db}
 use Rattle.cal_schema.specs.declared.tile.Measure.{Measure}
 use Rattle.cal_schema.specs.declared.tile.TileKey.{TileKey}

@@ -2,8 +2,8 @@
 use Rattle.std.specs.Prelude.{ℕ, List}
 use Rattle.cal_value.specs.declared.kind.SqlType.{SqlType}
 use Rattle.cal_expr.specs.declared.expr.Expr.{Expr}
-use Rattle.cal_rel.specs.declared.agg_call.AggCall.{AggCall}
-use Rattle.cal_rel.specs.declared.join_kind.JoinKind.{JoinKind}
+use Rattle.cal_schema.specs.declared.agg_call.AggCall.{AggCall}
+use Rattle.cal_schema.specs.declared.join_kind.JoinKind.{JoinKind}
 use Rattle.cal_rel.specs.declared.rel.Rel.{Rel}
 use Rattle.cal_rel.specs.declared.rel.Rel.TheOpen.{Rel-F}
 use Rattle.cal_rel.specs.declared.rel.Rel.TheFolds.{fold-Rel}

@@ -15,11 +15,11 @@ use Rattle.cal_expr.specs.declared.expr.Expr.{Expr}
 use Rattle.cal_expr.specs.declared.expr.Expr.TheOpen.{Expr-F}
 use Rattle.cal_expr.specs.declared.expr.Expr.TheFolds.{fold-Expr}
 use Rattle.cal_expr.specs.Typing as expressions
-use Rattle.cal_rel.specs.declared.agg_call.AggCall.{AggCall}
-use Rattle.cal_rel.specs.declared.join_kind.JoinKind.{JoinKind}
-use Rattle.cal_rel.specs.declared.join_kind.JoinKind.TheVariants.{Inner, Left}
-use Rattle.cal_rel.specs.declared.rel_type.RelType.{RelType}
-use Rattle.cal_rel.specs.declared.star_pair.StarPair.{StarPair}
+use Rattle.cal_schema.specs.declared.agg_call.AggCall.{AggCall}
+use Rattle.cal_schema.specs.declared.join_kind.JoinKind.{JoinKind}
+use Rattle.cal_schema.specs.declared.join_kind.JoinKind.TheVariants.{Inner, Left}
+use Rattle.cal_schema.specs.declared.rel_type.RelType.{RelType}
+use Rattle.cal_schema.specs.declared.star_pair.StarPair.{StarPair}
 use Rattle.cal_schema.specs.declared.table.TableDef.{TableDef}
 use Rattle.cal_schema.specs.declared.tile.TileKey.{TileKey}
 use Rattle.cal_schema.specs.Fits.{types_of}

@@ -3,7 +3,7 @@ ghost use Rattle.std.specs.Prelude.{◌≡◌, ◌*◌};
 ghost use Rattle.cal_aggregate.specs.ResultType.{row_bound};
 ghost use Rattle.cal_rel.specs.Typing as spec;
 
-use crate::join_kind::JoinKind;
+use cal_schema::JoinKind;
 use cal_value::{List, NUMBER_LIMIT};
 
 // The product, cut at 10^38.

@@ -2,8 +2,7 @@ ghost use Rattle.std.specs.Prelude.{◌≡◌, IfOk, slice_get};
 ghost use Rattle.std.specs.Option.{option_copied};
 ghost use Rattle.cal_rel.specs.Info.{info_of, set_at};
 
-use crate::rel_type::RelType;
-use cal_schema::{Schema, TableDef, TileInfo};
+use cal_schema::{RelType, Schema, TableDef, TileInfo};
 use cal_value::{Duplicate, List, NoMemory};
 use std::alloc::Global;
 use std::marker::Model;

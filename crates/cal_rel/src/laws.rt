@@ -3,9 +3,9 @@ ghost use Rattle.std.specs.Prelude.{◌≡◌, ℕ, Some, List as ListOf, All, l
 ghost use Rattle.cal_value.specs.Order.{SameBag};
 ghost use Rattle.cal_expr.specs.declared.expr.Expr.{Expr};
 ghost use Rattle.cal_schema.specs.declared.database.Db.{Db};
-ghost use Rattle.cal_rel.specs.declared.rel_type.RelType.{RelType as RelTypeOf};
+ghost use Rattle.cal_schema.specs.declared.rel_type.RelType.{RelType as RelTypeOf};
 ghost use Rattle.cal_schema.specs.Fits.{Fits};
-ghost use Rattle.cal_rel.specs.RelType.{IsTrueOf, IsWithin};
+ghost use Rattle.cal_schema.specs.RelType.{IsTrueOf, IsWithin};
 ghost use Rattle.cal_schema.specs.Valid.{IsValidSchema};
 ghost use Rattle.cal_rel.specs.Bag.{bag, width, set_width};
 ghost use Rattle.cal_rel.specs.Examples.{SmallTrees};
@@ -18,7 +18,7 @@ ghost use Rattle.cal_rel.specs.Ranges.{IsInRange, AreInRange, IsSqlValue};
 ghost use Rattle.cal_rel.specs.Tree.{Tree};
 ghost use Rattle.cal_rel.specs.Typing.{type_of};
 
-use crate::rel_type::RelType;
+use cal_schema::RelType;
 use cal_value::{List, Row};
 
 /// The type of a well-formed tree is true of the rows that it means over every database that fits and all rows in its

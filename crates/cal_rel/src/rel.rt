@@ -2,9 +2,8 @@ ghost use Rattle.std.specs.Prelude.{◌≡◌, IfOk};
 ghost use Rattle.std.specs.Cmp.Lexicographic.{pointwise};
 ghost use Rattle.cal_rel.specs.Equal.{agg_eq, call_eq, interval_eq, type_eq, join_kind_eq};
 
-use crate::agg_call::AggCall;
-use crate::join_kind::JoinKind;
 use cal_expr::Expr;
+use cal_schema::{AggCall, JoinKind};
 use cal_value::{Agg, Duplicate, Interval, List, NoMemory, SqlType};
 use sqlite_items::Boxed;
 use std::alloc::Global;

@@ -7,16 +7,13 @@ ghost use Rattle.cal_rel.specs.Tree.{tree_of, scan, tile_scan, star_scan, join_o
 ghost use Rattle.cal_rel.specs.Typing as spec;
 ghost use Rattle.cal_rel.specs.Typing.{types_by};
 
-use crate::agg_call::AggCall;
 use crate::bounds::{group_bound, join_bound};
 use crate::info::PlanInfo;
-use crate::join_kind::JoinKind;
 use crate::pairs::{is_keyed, left_columns, pairs_of, right_columns};
 use crate::rel::Rel;
-use crate::rel_type::RelType;
 use cal_aggregate::result_type;
 use cal_expr::{Expr, expr_type};
-use cal_schema::TableDef;
+use cal_schema::{AggCall, JoinKind, RelType, TableDef};
 use cal_value::{Duplicate, Interval, Kind, List, NoMemory, SqlType};
 use std::alloc::Global;
 
