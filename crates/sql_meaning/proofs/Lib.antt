@@ -1,4 +1,5 @@
 pub mod Nothing
 pub mod OneEntry
 pub mod Places
+pub mod Pushed
 pub mod Used

@@ -12,6 +12,8 @@ use Rattle.cal_value.specs.Types.{same_kind}
 use Rattle.sql_tree.specs.declared.tree.Tree.{Tree}
 use Rattle.sql_tree.specs.declared.tree.Tree.TheFolds.{fold-Tree}
 use Rattle.sql_tree.specs.declared.tree.Tree.TheOpen.{Tree-F}
+use Rattle.sql_meaning.specs.declared.parts.SelectPart.{SelectPart}
+use Rattle.sql_meaning.specs.Parts.{seen_by, is_condition}
 use Rattle.sql_meaning.specs.Scope.{Header, type_in}
 
 -- the kind of an expression, its own place, and the places in it where kinds don't go together
@@ -99,3 +101,7 @@ clashes scope tree = (kinded scope tree).clashes
 -- the same of a condition, which is BOOLEAN
 abbrev pub condition_clashes : List Header → Tree → List ℕ
 condition_clashes scope tree = not_boolean (kinded scope tree) ++ clashes scope tree
+
+abbrev pub part_clashes : List Header → SelectPart → List ℕ
+part_clashes scope part =
+    if is_condition part.role then condition_clashes (seen_by scope part) part.tree else clashes (seen_by scope part) part.tree

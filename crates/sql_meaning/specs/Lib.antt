@@ -1,6 +1,12 @@
+pub mod Answer
+pub mod Bounds
 pub mod Direct
+pub mod Groups
 pub mod Kinds
+pub mod Mentions
 pub mod Names
+pub mod Order
+pub mod Parts
 pub mod Refused
 pub mod Scope
 pub mod Sizes

@@ -1,5 +1,6 @@
 //! The columns that names stand for.
 ghost use Rattle.std.specs.Prelude.{◌≡◌, ◌<◌, ◌^◌, length, IfSome};
+ghost use Rattle.sql_meaning.specs.Scope as spec;
 ghost use Rattle.sql_meaning.specs.Scope.{place_of, type_in, types_in};
 
 use crate::entry::Entry;
@@ -35,13 +36,26 @@ pub fn column_place(scope: &[Entry<'_>], name: &ColumnName) -> Option<usize>
     None
 }
 
+/// The place of the column among those of all entries, and the place past the end where none has it. The places fit 32 bits.
+/// Takes no memory.
+pub fn column_at(scope: &[Entry<'_>], name: &ColumnName) -> usize
+    requires { length (types_in scope.now) < 2 ^ 32 }
+    ensures place { result ≡ spec.column_at scope.now name.now }
+    ensures small { result < 2 ^ 32 }
+{
+    match column_place(scope, name) {
+        Some(at) => at,
+        None => column_count(scope),
+    }
+}
+
 /// The type of the column. None comes exactly where no entry has it. Takes no memory.
 pub fn column_type(scope: &[Entry<'_>], name: &ColumnName) -> Option<SqlType>
     ensures { result ≡ type_in scope.now name.now }
 {
     for entry in scope {
         if let Some(at) = entry.place(name) {
-            return Some(entry.columns()[at].kind);
+            return Some(entry.type_of(&entry.columns()[at]));
         }
     }
     None

@@ -1,4 +1,4 @@
--- What the parser answers, where each fault comes, and when a text is one of a statement.
+-- What the parser answers, where each fault comes, and when a text is a statement.
 use Rattle.std.specs.Prelude.{◌≡◌, ℕ, ◌<◌, ◌≤◌, false, List, Option, Some, None, Result, Ok, Err}
 use Rattle.cal_value.specs.declared.limits.TheConstants.{BRACKET_LIMIT, OPERATOR_LIMIT}
 use Rattle.sql_text.specs.declared.token.Token.{Token}
@@ -37,3 +37,16 @@ pub record IsTextOf (cs : List ℕ) (x : Statement) : Type 0 where
   pub has : HasTokens cs tokens
   pub spelled : Spells tokens statement
   pub same : IsSame statement x
+
+-- the text's tokens keep the limits and spell the statement
+pub record IsStatement (text : List ℕ) (statement : Statement) : Type 0 where
+  pub tokens : List Token
+  pub has_tokens : HasTokens text tokens
+  pub within : IsWithinLimits tokens
+  pub spelled : Spells tokens statement
+
+-- the text has tokens, and they have this fault
+pub record HasFault (text : List ℕ) (fault : ParseFault) : Type 0 where
+  pub tokens : List Token
+  pub has_tokens : HasTokens text tokens
+  pub is_fault : IsFaultOf tokens fault
