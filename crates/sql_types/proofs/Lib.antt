@@ -1,0 +1,4 @@
+pub mod Bounded
+pub mod Lowest
+pub mod Nearest
+pub mod Parts

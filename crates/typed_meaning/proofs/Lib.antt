@@ -1,0 +1,14 @@
+pub mod Accepted
+pub mod Bounds
+pub mod Groups
+pub mod Keys
+pub mod Known
+pub mod Levels
+pub mod Lists
+pub mod LookUp
+pub mod Mentioned
+pub mod Nothing
+pub mod Output
+pub mod Rows
+pub mod Types
+pub mod Values
