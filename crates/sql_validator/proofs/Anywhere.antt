@@ -2,15 +2,7 @@
 use Rattle.std.proofs.Common.{◌≡◌, refl, ap, sym, ◌∙◌, map, Bool, true, false, ◌||◌, List, [], ◌∷◌, ◌++◌}
 use Rattle.std.specs.List.{list_any}
 use Rattle.sql_tree.specs.declared.select.Item.{Item}
-use Rattle.sql_meaning.specs.Refused.{has_aggregate}
-
-pub any-append : {A : Type 0} (p : A → Bool) (xs ys : List A) → list_any p (xs ++ ys) ≡ (list_any p xs || list_any p ys)
-any-append p [] ys = refl
-any-append p (x ∷ xs) ys = by (p x) (any-append p xs ys)
-  where
-    by : (b : Bool) → list_any p (xs ++ ys) ≡ (list_any p xs || list_any p ys) → (b || list_any p (xs ++ ys)) ≡ ((b || list_any p xs) || list_any p ys)
-    by true e = refl
-    by false e = e
+use Rattle.sql_meaning.specs.Parts.{has_aggregate}
 
 pub any-map : {A B : Type 0} (p : B → Bool) (f : A → B) (xs : List A) → list_any p (map f xs) ≡ list_any (λ x. p (f x)) xs
 any-map p f [] = refl
@@ -20,5 +12,3 @@ pub has_aggregate-items : (items : List Item) (b : Bool) → b ≡ list_any (λ 
 has_aggregate-items items b e = e ∙ sym (any-map has_aggregate (λ (item : Item). item.tree) items)
 
 pub ruleset any_rules = (has_aggregate-items)
-
-pub ruleset plain_rules = (any-append)

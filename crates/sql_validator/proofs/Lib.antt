@@ -1,7 +1,8 @@
 pub mod Anywhere
-pub mod First
+pub mod FromTables
 pub mod Lowest
+pub mod Mentioned
 pub mod Named
-pub mod Nearest
-pub mod OneTable
-pub mod Parts
+pub mod Placed
+pub mod Resolving
+pub mod RowFaults

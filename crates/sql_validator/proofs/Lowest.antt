@@ -1,23 +1,21 @@
 -- The lowest place of what stands in parts.
-use Rattle.std.proofs.Common.{◌≡◌, ◌∙◌, ap, sym, refl, arith, ◌<◌, ◌+◌, length, take, get_or, ℕ, cond, List, [], ◌∷◌, ◌++◌, Option, Some, None}
+use Rattle.std.proofs.Common.{◌≡◌, ◌<◌, ◌+◌, ◌∙◌, ap, sym, refl, arith, add-one, append-nil, length, take, get_or, ℕ, cond, List, [], ◌∷◌, ◌++◌, Option, Some, None}
 use Rattle.std.specs.Prelude.{nat_lt}
+use Rattle.std.specs.List.{flat_map}
+use Rattle.std.proofs.Math.Seq.{take-suc}
 use Rattle.std.proofs.lemmas.Bool.Decides.{nat_tests}
-use Rattle.cal_value.specs.declared.operator.Agg.{Agg}
-use Rattle.cal_value.specs.declared.operator.Agg.TheVariants.{Count, Sum, Sum0, Min, Max}
+use Rattle.std.proofs.lemmas.Grind.{flat_map-append}
 use Rattle.cal_value.specs.declared.operator.Op.{Op}
-use Rattle.cal_value.specs.declared.operator.Op.TheVariants.{Add, Subtract, Multiply, Divide, Equal, NotEqual, Less, LessEqual, Greater, GreaterEqual, And, Or}
-use Rattle.cal_value.specs.declared.kind.Kind.{Kind}
-use Rattle.sql_tree.specs.declared.select.Item.{Item}
 use Rattle.sql_tree.specs.declared.tree.Tree.{Tree}
-use Rattle.sql_tree.specs.declared.tree.Tree.TheFolds.{fold-roll-Tree}
+use Rattle.sql_tree.specs.declared.tree.Tree.TheFolds.{fold-Tree, fold-roll-Tree}
 use Rattle.sql_tree.specs.declared.tree.Tree.TheOpen.{Tree-F}
-use Rattle.sql_tree.specs.declared.tree.Tree.TheVariants.{Binary, Aggregate, rolls-Binary, rolls-Aggregate}
-use Rattle.sql_meaning.specs.Kinds.{Kinded, kinded, kinded_step, clashes, op_kind, op_clash, agg_clash, agg_kind, aggregate_kinded}
-use Rattle.sql_meaning.specs.Scope.{Header}
-use Rattle.sql_validator.specs.declared.kinds.Judged.{Judged}
-use Rattle.sql_validator.proofs.Parts.{parts, parts-next}
+use Rattle.sql_tree.specs.declared.tree.Tree.TheVariants.{Binary, rolls-Binary}
+use Rattle.sql_meaning.specs.Parts.{listed}
 use Rattle.sql_meaning.specs.Refused.{lower, lowest}
-use Rattle.sql_validator.specs.Walks.{lower_of, judged_of, bare}
+
+abbrev lower_of : Option ℕ → Option ℕ → Option ℕ
+lower_of None other = other
+lower_of (Some place) other = lower place other
 
 abbrev least : ℕ → ℕ → ℕ
 least a b = cond (nat_lt b a) b a
@@ -30,83 +28,47 @@ lower_assoc a None p = refl
 lower_assoc a (Some b) None = refl
 lower_assoc a (Some b) (Some c) = ap Some (least_assoc a b c)
 
-pub lowest-append : (xs ys : List ℕ) → lowest (xs ++ ys) ≡ lower_of (lowest xs) (lowest ys)
+lowest-append : (xs ys : List ℕ) → lowest (xs ++ ys) ≡ lower_of (lowest xs) (lowest ys)
 lowest-append [] ys = refl
 lowest-append (x ∷ xs) ys = ap (lower x) (lowest-append xs ys) ∙ lower_assoc x (lowest xs) (lowest ys)
 
-pub op_clash-bare : (place : ℕ) (op : Op) (a b : Kinded) → op_clash place op (bare (judged_of a)) (bare (judged_of b)) ≡ op_clash place op a b
-op_clash-bare place Add a b = refl
-op_clash-bare place Subtract a b = refl
-op_clash-bare place Multiply a b = refl
-op_clash-bare place Divide a b = refl
-op_clash-bare place Equal a b = refl
-op_clash-bare place NotEqual a b = refl
-op_clash-bare place Less a b = refl
-op_clash-bare place LessEqual a b = refl
-op_clash-bare place Greater a b = refl
-op_clash-bare place GreaterEqual a b = refl
-op_clash-bare place And a b = refl
-op_clash-bare place Or a b = refl
+lowest-two : (a b : Option ℕ) → lowest (listed a ++ listed b) ≡ lower_of a b
+lowest-two None None = refl
+lowest-two None (Some b) = refl
+lowest-two (Some a) None = refl
+lowest-two (Some a) (Some b) = refl
 
-pub agg_clash-bare : (place : ℕ) (agg : Agg) (a : Kinded) → agg_clash place agg (bare (judged_of a)) ≡ agg_clash place agg a
-agg_clash-bare place Count a = refl
-agg_clash-bare place Sum a = refl
-agg_clash-bare place Sum0 a = refl
-agg_clash-bare place Min a = refl
-agg_clash-bare place Max a = refl
+-- the lowest of two parts is the lower one of theirs
+pub lowest-parts : (xs ys : List ℕ) → lowest (listed (lowest xs) ++ listed (lowest ys)) ≡ lowest (xs ++ ys)
+lowest-parts xs ys = lowest-two (lowest xs) (lowest ys) ∙ sym (lowest-append xs ys)
 
-pub lowest-next : (f : Tree → List ℕ) (items : List Item) (i : ℕ) (item : Item) → item ≡ get_or items i item → i < length items
-    → lowest (parts f (take (i + 1) items)) ≡ lower_of (lowest (parts f (take i items))) (lowest (f item.tree))
-lowest-next f items i item is lt = ap lowest (parts-next f items i item is lt) ∙ lowest-append (parts f (take i items)) (f item.tree)
-
--- of a loop over the items: what was found, and what the walk over the item's tree tells
-pub lowest-turn : (scope : List Header) (items : List Item) (i : ℕ) (item : Item) (tree : Tree) (j : Judged) (found new : Option ℕ) → item ≡ get_or items i item → i < length items → tree ≡ item.tree
-    → found ≡ lowest (parts (clashes scope) (take i items)) → j ≡ judged_of (kinded scope tree) → new ≡ lower_of found j.clash → new ≡ lowest (parts (clashes scope) (take (i + 1) items))
-lowest-turn scope items i item tree j found new is lt et ef ej en =
+-- of a loop over the parts
+pub lowest-turn : {A : Type 0} (f : A → List ℕ) (xs : List A) (i : ℕ) (x : A) (found here new : Option ℕ) → x ≡ get_or xs i x → i < length xs
+    → found ≡ lowest (flat_map f (take i xs)) → here ≡ lowest (f x) → new ≡ lowest (listed found ++ listed here) → new ≡ lowest (flat_map f (take (i + 1) xs))
+lowest-turn f xs i x found here new is lt ef eh en =
     en
-    ∙ ap (λ o. lower_of o j.clash) ef
-    ∙ ap (λ (x : Judged). lower_of (lowest (parts (clashes scope) (take i items))) x.clash) (ej ∙ ap (λ t. judged_of (kinded scope t)) et)
-    ∙ sym (lowest-next (clashes scope) items i item is lt)
+    ∙ ap (λ o. lowest (listed o ++ listed here)) ef
+    ∙ ap (λ o. lowest (listed (lowest (flat_map f (take i xs))) ++ listed o)) (eh ∙ ap (λ y. lowest (f y)) is)
+    ∙ lowest-parts (flat_map f (take i xs)) (f (get_or xs i x))
+    ∙ ap (λ ys. lowest (flat_map f (take i xs) ++ ys)) (sym (append-nil (f (get_or xs i x))))
+    ∙ ap lowest (sym (ap (λ n. flat_map f (take n xs)) (add-one i) ∙ ap (flat_map f) (take-suc xs i x lt) ∙ flat_map-append f (take i xs) (get_or xs i x ∷ [])))
 
--- ---- the kinds of an operator's operands
+-- ---- an operator's operands
 
-pub kinded-Binary : (scope : List Header) (place : ℕ) (op : Op) (l r : Tree) → kinded scope (Binary place op l r) ≡ kinded_step scope (Tree-F.Binary place op (kinded scope l) (kinded scope r))
-kinded-Binary scope place op l r = ap (kinded scope) (sym (rolls-Binary place op l r)) ∙ fold-roll-Tree Kinded (kinded_step scope) (Tree-F.Binary place op l r)
+fold-Binary : {A : Type 0} (step : Tree-F A → A) (place : ℕ) (op : Op) (l r : Tree) → fold-Tree A step (Binary place op l r) ≡ step (Tree-F.Binary place op (fold-Tree A step l) (fold-Tree A step r))
+fold-Binary {A} step place op l r = ap (fold-Tree A step) (sym (rolls-Binary place op l r)) ∙ fold-roll-Tree A step (Tree-F.Binary place op l r)
 
-abbrev made : ℕ → Kind → Option ℕ → Judged
-made place kind clash = record { kind = kind; place = place; clash = clash }
+-- what a walk tells of an operator whose operands' places stand behind one another
+pub lowest-Binary : {A : Type 0} (step : Tree-F A → A) (places : A → List ℕ) → ((place : ℕ) (op : Op) (a b : A) → places (step (Tree-F.Binary place op a b)) ≡ places a ++ places b)
+    → (place : ℕ) (op : Op) (l r tree left right : Tree) (a b new : Option ℕ) → tree ≡ Binary place op l r → left ≡ l → right ≡ r
+    → a ≡ lowest (places (fold-Tree A step left)) → b ≡ lowest (places (fold-Tree A step right)) → new ≡ lowest (listed a ++ listed b) → new ≡ lowest (places (fold-Tree A step tree))
+lowest-Binary {A} step places both place op l r tree left right a b new is el er ea eb en =
+    en
+    ∙ ap (λ o. lowest (listed o ++ listed b)) (ea ∙ ap (λ t. lowest (places (fold-Tree A step t))) el)
+    ∙ ap (λ o. lowest (listed (lowest (places (fold-Tree A step l))) ++ listed o)) (eb ∙ ap (λ t. lowest (places (fold-Tree A step t))) er)
+    ∙ lowest-parts (places (fold-Tree A step l)) (places (fold-Tree A step r))
+    ∙ ap lowest (sym (both place op (fold-Tree A step l) (fold-Tree A step r)))
+    ∙ ap (λ x. lowest (places x)) (sym (fold-Binary step place op l r))
+    ∙ ap (λ t. lowest (places (fold-Tree A step t))) (sym is)
 
-pub judged-Binary : (scope : List Header) (place : ℕ) (op : Op) (l r : Tree) (a b : Judged) (kind : Kind) (own first clash : Option ℕ)
-    → a ≡ judged_of (kinded scope l) → b ≡ judged_of (kinded scope r) → kind ≡ op_kind op → own ≡ lowest (op_clash place op (bare a) (bare b)) → first ≡ lower_of a.clash own → clash ≡ lower_of first b.clash
-    → made place kind clash ≡ judged_of (kinded scope (Binary place op l r))
-judged-Binary scope place op l r a b kind own first clash ea eb ek eo ef ec =
-    ap (λ k. made place k clash) ek
-    ∙ ap (made place (op_kind op)) (ec ∙ ap (λ x. lower_of x b.clash) (ef ∙ ap (lower_of a.clash) eo)
-    ∙ ap (λ (x : Judged). lower_of (lower_of x.clash (lowest (op_clash place op (bare x) (bare b)))) b.clash) ea
-    ∙ ap (λ (x : Judged). lower_of (lower_of (lowest (kinded scope l).clashes) (lowest (op_clash place op (bare (judged_of (kinded scope l))) (bare x)))) x.clash) eb
-    ∙ ap (λ (x : List ℕ). lower_of (lower_of (lowest (kinded scope l).clashes) (lowest x)) (lowest (kinded scope r).clashes)) (op_clash-bare place op (kinded scope l) (kinded scope r))
-    ∙ ap (λ x. lower_of x (lowest (kinded scope r).clashes)) (sym (lowest-append (kinded scope l).clashes (op_clash place op (kinded scope l) (kinded scope r))))
-    ∙ sym (lowest-append ((kinded scope l).clashes ++ op_clash place op (kinded scope l) (kinded scope r)) (kinded scope r).clashes))
-    ∙ ap judged_of (sym (kinded-Binary scope place op l r))
-
--- of an aggregate with an argument
-pub kinded-Aggregate : (scope : List Header) (place : ℕ) (agg : Agg) (a : Tree) → kinded scope (Aggregate place agg (Some a)) ≡ aggregate_kinded place agg (Some (kinded scope a))
-kinded-Aggregate scope place agg a = ap (kinded scope) (sym (rolls-Aggregate place agg (Some a))) ∙ fold-roll-Tree Kinded (kinded_step scope) (Tree-F.Aggregate place agg (Some a))
-
-pub judged-Aggregate : (scope : List Header) (place : ℕ) (agg : Agg) (a : Tree) (j made : Judged) → j ≡ judged_of (kinded scope a)
-    → made ≡ record { kind = agg_kind agg j.kind; place = place; clash = lower_of (lowest (agg_clash place agg (bare j))) j.clash }
-    → made ≡ judged_of (kinded scope (Aggregate place agg (Some a)))
-judged-Aggregate scope place agg a j made e f =
-    f
-    ∙ ap (λ (x : Judged). of_agg x) e
-    ∙ ap (λ (x : List ℕ). with_clash (lower_of (lowest x) (lowest (kinded scope a).clashes))) (agg_clash-bare place agg (kinded scope a))
-    ∙ ap with_clash (sym (lowest-append (agg_clash place agg (kinded scope a)) (kinded scope a).clashes))
-    ∙ ap judged_of (sym (kinded-Aggregate scope place agg a))
-  where
-    of_agg : Judged → Judged
-    of_agg x = record { kind = agg_kind agg x.kind; place = place; clash = lower_of (lowest (agg_clash place agg (bare x))) x.clash }
-
-    with_clash : Option ℕ → Judged
-    with_clash c = record { kind = agg_kind agg (kinded scope a).kind; place = place; clash = c }
-
-pub ruleset lowest_rules = (lowest-append, op_clash-bare, agg_clash-bare)
+pub ruleset lowest_rules = (lowest-parts)

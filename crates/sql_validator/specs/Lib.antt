@@ -1,2 +1,4 @@
 pub mod Checked
+pub mod Refusal
+pub mod Tables
 pub mod Walks

@@ -1,44 +1,43 @@
--- What one walk over a tree tells: of the places that don't go together or fit, the one that counts.
+-- What is known of a SELECT on the way to its answer: words of private contracts.
 use Rattle.std.specs.Prelude.{◌≡◌, ℕ, List, [], ◌∷◌, map, Option, Some, None}
 use Rattle.std.specs.Option.{option_or}
 use Rattle.cal_schema.specs.declared.refusal.Refusal.{Refusal}
 use Rattle.cal_schema.specs.declared.schema.Schema.{Schema}
 use Rattle.sql_tree.specs.declared.select.Select.{Select}
-use Rattle.sql_meaning.specs.declared.misfit.Misfit.{Misfit}
-use Rattle.sql_meaning.specs.Kinds.{Kinded}
-use Rattle.sql_meaning.specs.Refused.{lower, lowest, nearer, nearest, unknown_column, type_clash, may_not_fit, refusal_of}
+use Rattle.sql_tree.specs.declared.select.TableName.{TableName}
+use Rattle.sql_meaning.specs.declared.mention.Mention.{Mention}
+use Rattle.sql_meaning.specs.Bounds.{bound_of}
+use Rattle.sql_meaning.specs.Mentions.{mentions, references}
 use Rattle.sql_meaning.specs.Names.{output_names}
-use Rattle.sql_meaning.specs.Scope.{Header, number_of, scope_of}
-use Rattle.sql_meaning.specs.Sizes.{Sized}
-use Rattle.sql_validator.specs.declared.kinds.Judged.{Judged}
-use Rattle.sql_validator.specs.declared.sizes.Weighed.{Weighed}
+use Rattle.sql_meaning.specs.Refused.{unknown_column, ambiguous, type_clash, aggregate_misplaced, not_grouped, order_key, may_not_fit, refusal_of}
+use Rattle.sql_meaning.specs.Scope.{Header, column_at, number_of, scope_of}
+use Rattle.sql_meaning.specs.Sizes.{output_types}
+use Rattle.sql_validator.specs.declared.validator.Outputs.{Outputs}
 
--- the lower place of two, where there is one
-abbrev pub lower_of : Option ℕ → Option ℕ → Option ℕ
-lower_of None other = other
-lower_of (Some place) other = lower place other
+-- the first of the causes that come from names
+abbrev pub name_cause : List Mention → Option Refusal
+name_cause all = option_or (unknown_column all) (ambiguous all)
 
--- the misfit with the lower place of two, and the first of one place
-abbrev pub nearer_of : Option Misfit → Option Misfit → Option Misfit
-nearer_of None other = other
-nearer_of (Some m) other = nearer m other
+-- of those that come from expressions by themselves
+abbrev pub part_cause : List Header → Select → Option Refusal
+part_cause scope select = option_or (type_clash scope select) (aggregate_misplaced select)
 
-abbrev pub judged_of : Kinded → Judged
-judged_of k = record { kind = k.kind; place = k.place; clash = lowest k.clashes }
+-- of those that are told last
+abbrev pub late_cause : List Header → ℕ → Select → Option Refusal
+late_cause scope before select = option_or (not_grouped scope before select) (option_or (order_key scope select) (may_not_fit scope select))
 
--- an expression of the kind at the place, in which all goes together
-abbrev pub bare : Judged → Kinded
-bare j = record { kind = j.kind; place = j.place; clashes = [] }
+-- of all that come from the entries of FROM
+abbrev pub scope_cause : List Header → ℕ → Select → Option Refusal
+scope_cause scope before select = option_or (name_cause (mentions scope select)) (option_or (part_cause scope select) (late_cause scope before select))
 
-abbrev pub weighed_of : Sized → Weighed
-weighed_of s = record { kind = s.type; misfit = nearest s.misfits }
+-- the places of the references, and the names and types of the columns of the answer
+pub record HasOutputs (scope : List Header) (select : Select) (made : Outputs) : Type 0 where
+  pub columns : made.columns ≡ map (column_at scope) (references select)
+  pub names : made.names ≡ output_names scope select.items
+  pub types : made.types ≡ output_types (bound_of scope) scope select.items
 
--- the first of the causes that come from columns and their types
-abbrev pub column_cause : List Header → Select → Option Refusal
-column_cause scope select = option_or (unknown_column scope select) (option_or (type_clash scope select) (may_not_fit scope select))
-
--- nothing refuses the SELECT, whose only table has this number and whose columns have these names
-pub record IsFound (schema : Schema) (select : Select) (number : ℕ) (names : List (List ℕ)) : Type 0 where
-  pub accepted : refusal_of schema select ≡ None
-  pub table : map (λ entry. number_of schema entry.table) select.from ≡ Some number ∷ []
-  pub named : names ≡ output_names (scope_of schema select) select.items
+-- and nothing refuses the SELECT, whose entries have these tables
+pub record IsResolved (schema : Schema) (before : ℕ) (select : Select) (tables : List ℕ) (made : Outputs) : Type 0 where
+  pub accepted : refusal_of schema before select ≡ None
+  pub tables_are : map Some tables ≡ map (λ entry. number_of schema entry.table) select.from
+  pub outputs : HasOutputs (scope_of schema select) select made

@@ -1,14 +1,20 @@
-//! Why a plain SELECT is refused, and what an accepted one has.
+//! Why a statement is refused, and what an accepted one has.
 #![tactic(auto)]
 
+mod aggregate_query;
+mod causes;
 mod checked;
-mod kinds;
-mod known;
+mod groups;
+mod keys;
+mod mentions;
 mod names;
+mod outputs;
 mod plain;
-mod sizes;
+mod references;
+mod rows;
+mod tables;
 mod validator;
 
-pub use checked::CheckedSelect;
+pub use checked::{Checked, CheckedSelect};
 pub use plain::{is_plain, only_entry};
 pub use validator::validate;

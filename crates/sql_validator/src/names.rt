@@ -3,7 +3,7 @@ ghost use Rattle.std.specs.Prelude.{◌≡◌, ◌++◌, ◌∷◌, [], IfOk, On
 ghost use Rattle.sql_tree.specs.declared.tree.Tree.TheViews.{out-Tree};
 ghost use Rattle.sql_meaning.specs.Names as spec;
 ghost use Rattle.sql_meaning.specs.Names.{shown_names};
-ghost use Rattle.sql_meaning.specs.Scope.{is_among};
+ghost use Rattle.sql_meaning.specs.Scope.{hidden_by, is_among};
 
 use cal_schema::ColumnDef;
 use cal_value::{Duplicate, List, NoMemory, SqlText};
@@ -70,7 +70,7 @@ fn add_name(
     names: &mut List<SqlText>,
 ) -> Result<(), NoMemory>
     ensures { OnOk result (names.new ≡ names.old ++
-        (if is_among column.now.name entry.now.hidden then [] else column.now.name ∷ [])) }
+        (if is_among column.now.name (hidden_by entry.now.entry.how) then [] else column.now.name ∷ [])) }
 {
     if entry.hides(&column.name) {
         return Ok(());
