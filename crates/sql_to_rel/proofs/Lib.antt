@@ -1,4 +1,3 @@
 pub mod Rolls
-pub mod Typed
 pub mod Types
 pub mod Values

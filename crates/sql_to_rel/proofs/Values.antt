@@ -13,9 +13,9 @@ use Rattle.sql_tree.specs.declared.tree.Tree.{Tree}
 use Rattle.sql_tree.specs.declared.tree.Tree.TheFolds.{fold-roll-Tree, ind-Tree, map-Tree}
 use Rattle.sql_tree.specs.declared.tree.Tree.TheOpen.{Tree-F}
 use Rattle.sql_tree.specs.declared.tree.Tree.TheViews.{roll-Tree}
-use Rattle.sql_meaning.specs.Scope.{Header, place_in, place_of, types_in}
+use Rattle.sql_meaning.specs.Scope.{Header, column_at, place_in, place_of, types_in}
 use Rattle.sql_meaning.specs.Value.{EntryRow, look_up, value, value_step}
-use Rattle.sql_to_rel.specs.Numbered.{numbered, numbered_step, column_at, flat, IsFull, AreFull}
+use Rattle.sql_to_rel.specs.Numbered.{numbered, numbered_step, flat, IsFull, AreFull}
 use Rattle.sql_to_rel.proofs.Rolls.{fold-Column, fold-Literal, fold-Negate, fold-Binary, fold-Not, fold-IsNull}
 
 abbrev headers : List EntryRow → List Header
@@ -34,14 +34,14 @@ column_of-behind (v ∷ row) rest at =
 
 -- of the first entry, or of the others
 place-front : (h : Header) (hs : List Header) (c : ColumnName) (at : ℕ) → place_in h c ≡ Some at → column_at (h ∷ hs) c ≡ at
-place-front h hs c at e = ap (λ o. unwrap_or (unwrap_or (option_map Some o) (option_map (λ k. length h.columns + k) (place_of hs c))) (length (types_in (h ∷ hs)))) e
+place-front h hs c at e = ap (λ o. unwrap_or (unwrap_or (option_map Some o) (option_map (λ k. length h.table.columns + k) (place_of hs c))) (length (types_in (h ∷ hs)))) e
 
-place-behind : (h : Header) (hs : List Header) (c : ColumnName) → place_in h c ≡ None → column_at (h ∷ hs) c ≡ length h.columns + column_at hs c
+place-behind : (h : Header) (hs : List Header) (c : ColumnName) → place_in h c ≡ None → column_at (h ∷ hs) c ≡ length h.table.columns + column_at hs c
 place-behind h hs c e =
-    ap (λ o. unwrap_or (unwrap_or (option_map Some o) (option_map (λ k. length h.columns + k) (place_of hs c))) (length (types_in (h ∷ hs)))) e
+    ap (λ o. unwrap_or (unwrap_or (option_map Some o) (option_map (λ k. length h.table.columns + k) (place_of hs c))) (length (types_in (h ∷ hs)))) e
     ∙ by (place_of hs c)
   where
-    by : (o : Option ℕ) → unwrap_or (option_map (λ k. length h.columns + k) o) (length (types_in (h ∷ hs))) ≡ length h.columns + unwrap_or o (length (types_in hs))
+    by : (o : Option ℕ) → unwrap_or (option_map (λ k. length h.table.columns + k) o) (length (types_in (h ∷ hs))) ≡ length h.table.columns + unwrap_or o (length (types_in hs))
     by None = length-types h hs
     by (Some at) = refl
 
@@ -57,7 +57,7 @@ look_up-flat (b ∷ bs) c full = by (place_in b.header c) refl (look_up-flat bs 
         ∙ later
     by (Some at) e later =
         ap (column_of (flat (b ∷ bs))) (place-front b.header (headers bs) c at e)
-        ∙ column_of-front b.row (flat bs) at (let lt : at < length b.header.columns = place_in-within b.header c at e in let long : length b.row ≡ length b.header.columns = All-head IsFull b bs full in omega arith)
+        ∙ column_of-front b.row (flat bs) at (let lt : at < length b.header.table.columns = place_in-within b.header c at e in let long : length b.row ≡ length b.header.table.columns = All-head IsFull b bs full in omega arith)
 
 abbrev IsSame : List EntryRow → Tree → Type 0
 IsSame env tree = meaning_of (numbered (headers env) tree) (flat env) ≡ value env tree

@@ -1,20 +1,15 @@
 -- The expression over numbered columns that a tree stands for.
-use Rattle.std.specs.Prelude.{◌≡◌, ℕ, List, length, All, unwrap_or}
+use Rattle.std.specs.Prelude.{◌≡◌, List, length, All}
 use Rattle.std.specs.List.{flat_map}
 use Rattle.cal_value.specs.declared.value.Value.{Value}
 use Rattle.cal_value.specs.declared.value.Value.TheVariants.{Null}
 use Rattle.cal_expr.specs.declared.expr.Expr.{Expr}
 use Rattle.cal_expr.specs.declared.expr.Expr.TheVariants.{Column, Literal, Negate, Binary, Not, IsNull}
-use Rattle.sql_tree.specs.declared.tree.ColumnName.{ColumnName}
 use Rattle.sql_tree.specs.declared.tree.Tree.{Tree}
 use Rattle.sql_tree.specs.declared.tree.Tree.TheFolds.{fold-Tree}
 use Rattle.sql_tree.specs.declared.tree.Tree.TheOpen.{Tree-F}
-use Rattle.sql_meaning.specs.Scope.{Header, place_of, types_in}
+use Rattle.sql_meaning.specs.Scope.{Header, column_at}
 use Rattle.sql_meaning.specs.Value.{EntryRow}
-
--- the place of the column among the columns of all entries, and the place past the end where none has it
-abbrev pub column_at : List Header → ColumnName → ℕ
-column_at scope c = unwrap_or (place_of scope c) (length (types_in scope))
 
 -- one level, with what each part stands for in its place. It speaks of trees without an aggregate
 abbrev pub numbered_step : List Header → Tree-F Expr → Expr
@@ -35,7 +30,7 @@ flat env = flat_map (λ b. b.row) env
 
 -- the row has a value for each column of its entry
 abbrev pub IsFull : EntryRow → Type 0
-IsFull b = length b.row ≡ length b.header.columns
+IsFull b = length b.row ≡ length b.header.table.columns
 
 abbrev pub AreFull : List EntryRow → Type 0
 AreFull env = All IsFull env

@@ -1,23 +1,12 @@
 ghost use Rattle.std.specs.Prelude.{◌≡◌, ◌<◌, ◌^◌, length, IfOk};
 ghost use Rattle.sql_meaning.specs.Scope.{types_in};
-ghost use Rattle.sql_to_rel.specs.Numbered as spec;
 ghost use Rattle.sql_to_rel.specs.Numbered.{numbered};
 
 use cal_expr::Expr;
 use cal_value::{Duplicate, NoMemory, Value};
-use sql_meaning::{Entry, column_count, column_place};
-use sql_tree::{ColumnName, Tree};
+use sql_meaning::{Entry, column_at};
+use sql_tree::Tree;
 use std::alloc::Global;
-
-fn column_at(scope: &[Entry<'_>], name: &ColumnName) -> u32
-    requires { length (types_in scope.now) < 2 ^ 32 }
-    ensures { result ≡ spec.column_at scope.now name.now }
-{
-    match column_place(scope, name) {
-        Some(at) => at as u32,
-        None => column_count(scope) as u32,
-    }
-}
 
 /// The expression that the tree stands for, over the columns of all entries, whose places fit 32 bits. An aggregate stands for
 /// nothing here.
@@ -26,7 +15,7 @@ pub fn expression(alloc: Global, tree: &Tree, scope: &[Entry<'_>]) -> Result<Exp
     ensures { IfOk result (λ e. e ≡ numbered scope.now tree.now) }
 {
     match tree {
-        Tree::Column { name, .. } => Ok(Expr::Column(column_at(scope, name))),
+        Tree::Column { name, .. } => Ok(Expr::Column(column_at(scope, name) as u32)),
         Tree::Literal { value, .. } => Ok(Expr::Literal(value.copy(alloc)?)),
         Tree::Negate { operand, .. } => {
             let operand = expression(alloc, operand.get(), scope)?;

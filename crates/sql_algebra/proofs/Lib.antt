@@ -1,0 +1,13 @@
+pub mod Lists
+pub mod From
+pub mod Items
+pub mod Places
+pub mod Calls
+pub mod Groups
+pub mod Whole
+pub mod Keyed
+pub mod FromTypes
+pub mod Output
+pub mod GroupTypes
+pub mod WellFormed
+pub mod WholeTypes

@@ -1,0 +1,4 @@
+//! The relational tree that a SELECT stands for, and that its rows are those that the SELECT means.
+#![tactic(auto)]
+
+pub mod laws;
