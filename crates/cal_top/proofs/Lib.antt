@@ -1,4 +1,3 @@
 mod OneEnd
-mod OneReply
 mod ReplyLemmas
 mod RunLemmas

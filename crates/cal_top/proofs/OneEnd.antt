@@ -1,4 +1,5 @@
--- At most one fault, one list of files and one pair of tables and reply are right for given words, over told files without a counted fault.
+-- At most one fault, one list of files, one list of tables and, up to the order of its rows, one reply are right for given words, over told
+-- files without a counted fault.
 use Rattle.std.proofs.Common.{◌≡◌, ◌≤◌, ◌<◌, ℕ, List, [], ◌∷◌, ◌++◌, Option, Some, None, ◌⊎◌, inl, inr, sym, ap, subst, ◌∙◌, arith, refl, append-nil, append_assoc}
 use Rattle.std.specs.Prelude.{◌≢◌, Err, IfSome, IsSomeAnd, length, encode_utf8_all}
 use Rattle.std.specs.Str.{chars}
@@ -15,9 +16,9 @@ use Rattle.cal_start.specs.declared.files.FileRead.{FileRead}
 use Rattle.command_line.specs.Reading.{reading}
 use Rattle.command_line.specs.declared.reading.Asked.{Asked}
 use Rattle.session_lane.specs.declared.reply.Reply.{Reply}
-use Rattle.cal_top.specs.Replies.{IsReplyTo}
+use Rattle.session_lane.specs.Replies.{AreSameReplies, IsReplyTo}
 use Rattle.cal_top.specs.Run.{NothingRead, HasRead, IsReplied, IsStopped, HasCause}
-use Rattle.cal_top.specs.RunEnd.{RunEnd, IsRightEnd}
+use Rattle.cal_top.specs.RunEnd.{AreSameEnds, HaveSameReplies, RunEnd, IsRightEnd}
 use Rattle.cal_top.specs.Texts.{top_fault}
 use Rattle.cal_top.specs.declared.record.TopFault.{TopFault}
 use Rattle.cal_top.specs.declared.record.TopFault.TheVariants.{BadWords, NotJson, BadModel, Table, TooBig, ReadFault, SinkFault, NoMemory}
@@ -212,26 +213,32 @@ same_asked a b e = Prim.cc
 abbrev run_end : Option TopFault → List FileRead → Option Db → Option Reply → RunEnd
 run_end fault files db reply = record { fault = fault; files = files; db = db; reply = reply }
 
-same_end : (f g : Option TopFault) (fs gs : List FileRead) (d e : Option Db) (r s : Option Reply) → f ≡ g → fs ≡ gs → d ≡ e → r ≡ s
-    → run_end f fs d r ≡ run_end g gs e s
-same_end f g fs gs d e r s p q u v =
-    ap (λ (x : Option TopFault). run_end x fs d r) p
-    ∙ ap (λ (x : List FileRead). run_end g x d r) q
-    ∙ ap (λ (x : Option Db). run_end g gs x r) u
-    ∙ ap (λ (x : Option Reply). run_end g gs e x) v
+same_end : (f g : Option TopFault) (fs gs : List FileRead) (d e : Option Db) (r s : Option Reply) → f ≡ g → fs ≡ gs → d ≡ e → HaveSameReplies r s
+    → AreSameEnds (run_end f fs d r) (run_end g gs e s)
+same_end f g fs gs d e r s p q u v = record { fault = p; files = q; db = u; reply = v }
 
--- of a reply there is one at most
+no_replies : (r s : Option Reply) → r ≡ None → s ≡ None → HaveSameReplies r s
+no_replies r s p q =
+    subst (λ (x : Option Reply). HaveSameReplies x s) (sym p)
+    (subst (λ (y : Option Reply). HaveSameReplies None y) (sym q) tt)
+
+some_replies : (r s : Option Reply) (a b : Reply) → r ≡ Some a → s ≡ Some b → AreSameReplies a b → HaveSameReplies r s
+some_replies r s a b p q same =
+    subst (λ (x : Option Reply). HaveSameReplies x s) (sym p)
+    (subst (λ (y : Option Reply). HaveSameReplies (Some a) y) (sym q) same)
+
+-- two right replies are the same
 abbrev pub OneReply : Type 0
-OneReply = (schema : Schema) (db : Db) (text : List ℕ) (a b : Reply) → IsReplyTo schema db text a → IsReplyTo schema db text b → a ≡ b
+OneReply = (schema : Schema) (db : Db) (text : List ℕ) (a b : Reply) → IsReplyTo schema db text a → IsReplyTo schema db text b → AreSameReplies a b
 
-same_replied : OneReply → (next : Next) (sql : List ℕ) (d e : Option Db) (r s : Option Reply) → IsReplied next sql d r → IsReplied next sql e s → (d ≡ e) × (r ≡ s)
+same_replied : OneReply → (next : Next) (sql : List ℕ) (d e : Option Db) (r s : Option Reply) → IsReplied next sql d r → IsReplied next sql e s → (d ≡ e) × HaveSameReplies r s
 same_replied one next sql d e r s p q =
     let whole = sym p.all_read ∙ q.all_read in
     let schema = same_schema p.schema q.schema p.tables q.tables whole in
     let tables = same_tables p.schema q.schema p.tables q.tables whole in
     let moved : IsReplyTo p.schema p.tables sql q.answer =
     subst (λ (x : Schema). IsReplyTo x p.tables sql q.answer) (sym schema) (subst (λ (x : Db). IsReplyTo q.schema x sql q.answer) (sym tables) q.replied) in
-    (p.db_is ∙ ap Some tables ∙ sym q.db_is, p.reply_is ∙ ap Some (one p.schema p.tables sql p.answer q.answer p.replied moved) ∙ sym q.reply_is)
+    (p.db_is ∙ ap Some tables ∙ sym q.db_is, some_replies r s p.answer q.answer p.reply_is q.reply_is (one p.schema p.tables sql p.answer q.answer p.replied moved))
 
 not_done : (store : StoreState) (next : Next) (fault : StartFault) (schema : Schema) (db : Db) → Follows store next fault → next ≡ done schema db → ⊥
 not_done store next fault schema db (inl p) is = stops_done fault schema db (sym p ∙ is)
@@ -252,9 +259,9 @@ stopped_or_replied old file words f fs d r g gs e s told p q =
 
 one_of_ends : OneReply → (old : StoreState) (file : Files) (words : List (List ℕ)) (f g : Option TopFault) (fs gs : List FileRead) (d e : Option Db) (r s : Option Reply)
     → old.files ≡ Some file → End old words f fs d r → End old words g gs e s
-    → run_end f fs d r ≡ run_end g gs e s
+    → AreSameEnds (run_end f fs d r) (run_end g gs e s)
 one_of_ends one old file words f g fs gs d e r s told (inl p) (inl q) =
-    same_end f g fs gs d e r s (p.fault_is ∙ sym q.fault_is) (p.nothing.0 ∙ sym q.nothing.0) (p.nothing.1.0 ∙ sym q.nothing.1.0) (p.nothing.1.1 ∙ sym q.nothing.1.1)
+    same_end f g fs gs d e r s (p.fault_is ∙ sym q.fault_is) (p.nothing.0 ∙ sym q.nothing.0) (p.nothing.1.0 ∙ sym q.nothing.1.0) (no_replies r s p.nothing.1.1 q.nothing.1.1)
 one_of_ends one old file words f g fs gs d e r s told (inl p) (inr (inl q)) = absurd (none_asked q.asked (sym p.no_reading ∙ q.words_have))
 one_of_ends one old file words f g fs gs d e r s told (inl p) (inr (inr q)) = absurd (none_asked q.asked (sym p.no_reading ∙ q.words_have))
 one_of_ends one old file words f g fs gs d e r s told (inr (inl p)) (inl q) = absurd (none_asked p.asked (sym q.no_reading ∙ p.words_have))
@@ -267,7 +274,7 @@ one_of_ends one old file words f g fs gs d e r s told (inr (inl p)) (inr (inl q)
     (last_follows old file (next_of p.asked.model fs) p.start told p.cause) (last_follows old file (next_of p.asked.model gs) q.start told cause) in
     let fault : p.start ≡ q.start = same_fault old (next_of p.asked.model fs) p.start q.start p.cause
     (subst (λ (x : List FileRead). Follows old (next_of p.asked.model x) q.start) (sym files) cause) in
-    same_end f g fs gs d e r s (p.fault_is ∙ ap (λ (x : StartFault). Some (top_fault x)) fault ∙ sym q.fault_is) files (p.no_db ∙ sym q.no_db) (p.no_reply ∙ sym q.no_reply)
+    same_end f g fs gs d e r s (p.fault_is ∙ ap (λ (x : StartFault). Some (top_fault x)) fault ∙ sym q.fault_is) files (p.no_db ∙ sym q.no_db) (no_replies r s p.no_reply q.no_reply)
 one_of_ends one old file words f g fs gs d e r s told (inr (inl p)) (inr (inr q)) =
     absurd (stopped_or_replied old file words f fs d r g gs e s told p q)
 one_of_ends one old file words f g fs gs d e r s told (inr (inr p)) (inr (inl q)) =
@@ -279,12 +286,12 @@ one_of_ends one old file words f g fs gs d e r s told (inr (inr p)) (inr (inr q)
     let files : fs ≡ gs = same_files old file (next_of p.asked.model) told [] fs gs p.read read
     (last_done old (next_of p.asked.model fs) p.replied.schema p.replied.tables p.replied.all_read)
     (last_done old (next_of p.asked.model gs) reply.schema reply.tables reply.all_read) in
-    let both : (d ≡ e) × (r ≡ s) = same_replied one (next_of p.asked.model fs) p.asked.sql d e r s p.replied
+    let both : (d ≡ e) × HaveSameReplies r s = same_replied one (next_of p.asked.model fs) p.asked.sql d e r s p.replied
     (subst (λ (x : List FileRead). IsReplied (next_of p.asked.model x) p.asked.sql e s) (sym files) reply) in
     same_end f g fs gs d e r s (p.fault_is ∙ sym q.fault_is) files both.0 both.1
 
 pub one_end : OneReply → (old : StoreState) (file : Files) (words : List (List ℕ)) (a b : RunEnd) → old.files ≡ Some file
-    → IsRightEnd old words a → IsRightEnd old words b → a ≡ b
+    → IsRightEnd old words a → IsRightEnd old words b → AreSameEnds a b
 one_end one old file words a b told p q =
     one_of_ends one old file words a.fault b.fault a.files b.files a.db b.db a.reply b.reply told
     (end_of old p.new words a.fault a.files a.db a.reply p.calm p.memory p.cause)

@@ -1,5 +1,3 @@
-pub mod Replies
 pub mod Run
 pub mod RunEnd
-pub mod Statements
 pub mod Texts

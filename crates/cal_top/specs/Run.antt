@@ -11,7 +11,7 @@ use Rattle.cal_start.specs.declared.files.FileRead.{FileRead}
 use Rattle.command_line.specs.Reading.{reading}
 use Rattle.command_line.specs.declared.reading.Asked.{Asked}
 use Rattle.session_lane.specs.declared.reply.Reply.{Reply}
-use Rattle.cal_top.specs.Replies.{IsReplyTo}
+use Rattle.session_lane.specs.Replies.{IsReplyTo}
 use Rattle.cal_top.specs.Texts.{status_of, top_fault}
 use Rattle.cal_top.specs.declared.record.QueryRecord.{QueryRecord}
 use Rattle.cal_top.specs.declared.record.TopFault.{TopFault}

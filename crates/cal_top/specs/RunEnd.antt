@@ -1,10 +1,11 @@
--- How a run ends before its text is written, for the law that it ends one way.
-use Rattle.std.specs.Prelude.{◌≡◌, ◌≢◌, ℕ, List, Option, Some}
+-- How a run ends before its text is written, and when two ends are the same, for the law that it ends one way.
+use Rattle.std.specs.Prelude.{◌≡◌, ◌≢◌, ℕ, List, Option, Some, None, ⊤}
 use Rattle.cal_outside.specs.Faults.{Rose}
 use Rattle.cal_outside.specs.Store.{StoreState}
 use Rattle.cal_schema.specs.declared.database.Db.{Db}
 use Rattle.cal_start.specs.declared.files.FileRead.{FileRead}
 use Rattle.session_lane.specs.declared.reply.Reply.{Reply}
+use Rattle.session_lane.specs.Replies.{AreSameReplies}
 use Rattle.cal_top.specs.Run.{HasCause}
 use Rattle.cal_top.specs.declared.record.TopFault.{TopFault}
 use Rattle.cal_top.specs.declared.record.TopFault.TheVariants.{NoMemory}
@@ -21,3 +22,17 @@ pub record IsRightEnd (old : StoreState) (words : List (List ℕ)) (end : RunEnd
   pub calm : Rose old.faults new.faults → ⊥
   pub memory : end.fault ≢ Some NoMemory
   pub cause : HasCause old new words end.fault end.files end.db end.reply
+
+-- the same replies up to the order of rows, or none
+abbrev pub HaveSameReplies : Option Reply → Option Reply → Type 0
+HaveSameReplies (Some a) (Some b) = AreSameReplies a b
+HaveSameReplies None None = ⊤
+HaveSameReplies (Some a) None = ⊥
+HaveSameReplies None (Some b) = ⊥
+
+-- the same fault, files and tables, and the same reply up to the order of its rows
+pub record AreSameEnds (a b : RunEnd) : Type 0 where
+  pub fault : a.fault ≡ b.fault
+  pub files : a.files ≡ b.files
+  pub db : a.db ≡ b.db
+  pub reply : HaveSameReplies a.reply b.reply

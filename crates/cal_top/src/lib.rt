@@ -6,18 +6,17 @@ mod laws;
 mod look;
 mod query;
 mod record;
-mod statement;
 mod tables;
 mod texts;
 
 pub use cal_schema::{Db, Refusal, WrittenName};
 pub use cal_start::{FileRead, TableFault, TableName};
 pub use csv_tables::{CsvCause, CsvFault};
-pub use laws::{one_end_is_right, one_reply_is_right};
+pub use laws::one_end_is_right;
 pub use model_json::ModelCause;
 pub use query::run_query;
 pub use record::{QueryRecord, TopFault};
-pub use session_lane::{Answer, Cause, Reply};
+pub use session_lane::{Answer, Cause, Reply, one_reply_is_right};
 
 #[cfg(test)]
 mod tests;

@@ -5,12 +5,11 @@ ghost use Rattle.cal_outside.specs.Store.{IsLater};
 ghost use Rattle.cal_schema.specs.Fits.{Fits};
 ghost use Rattle.cal_schema.specs.Valid.{IsValidSchema};
 ghost use Rattle.cal_start.specs.Ends.{KeepsEach};
-ghost use Rattle.cal_top.specs.Replies.{IsReplyTo};
+ghost use Rattle.session_lane.specs.Replies.{IsReplyTo};
 ghost use Rattle.cal_top.specs.Run.{HasCause};
 ghost use Rattle.cal_top.specs.Texts.{text_of};
 
 use crate::record::{TopFault, of_start};
-use crate::statement::reply_to;
 use crate::tables::{all_unshared, shared, shared_again};
 use crate::texts::{fault_text, reply_text};
 use cal_outside::{Store, Word};
@@ -19,7 +18,7 @@ use cal_snapshot::Snapshot;
 use cal_start::{FileRead, StartRecord, Started, start};
 use cal_value::{List, NoMemory, Row};
 use command_line::read_words;
-use session_lane::Reply;
+use session_lane::{Reply, reply_to};
 use std::alloc::Global;
 use std::sync::Arc;
 

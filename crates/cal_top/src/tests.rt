@@ -3,4 +3,6 @@ mod devices;
 mod files;
 mod phases;
 mod queries;
+mod refusals;
 mod run;
+mod statements;

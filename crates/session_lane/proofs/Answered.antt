@@ -1,11 +1,15 @@
 -- The answer is what the SELECT means.
 use Rattle.std.proofs.Common.{rules, ◌≡◌, ◌<◌, ◌≤◌, ◌+◌, ◌^◌, ◌∙◌, append_assoc, drop, ap, sym, subst, refl, arith, ℕ, Bool, true, false, cond, List, [], ◌∷◌, ◌++◌, length, map, filter, All, get_or, append-nil, Option, Some, None, IsSome, IfSome, option_map, unwrap_or, slice_get}
+use Rattle.std.proofs.lemmas.Bool.Decides.{nat_tests}
+use Rattle.std.specs.Prelude.{◌==◌, count_by, filter_map, if◌then◌else◌}
 use Rattle.std.specs.Option.{IsSomeAnd}
 use Rattle.std.proofs.lemmas.List.Elements.{All-cons, All-head, All-tail, All-map}
 use Rattle.cal_value.specs.declared.kind.SqlType.{SqlType}
 use Rattle.cal_value.specs.declared.value.Value.{Value}
 use Rattle.cal_value.specs.declared.limits.TheConstants.{COLUMN_LIMIT}
+use Rattle.cal_value.specs.Equal.{row_eq}
 use Rattle.cal_value.specs.Logic.{is_true}
+use Rattle.cal_value.specs.Order.{IsInOrder}
 use Rattle.cal_value.specs.Types.{HasTypes}
 use Rattle.cal_expr.specs.declared.expr.Expr.{Expr}
 use Rattle.cal_expr.specs.Meaning.{meaning_of}
@@ -26,19 +30,23 @@ use Rattle.sql_tree.specs.declared.select.Items.TheVariants.{Star, Listed}
 use Rattle.sql_tree.specs.declared.select.Select.{Select}
 use Rattle.sql_tree.specs.declared.tree.Tree.{Tree}
 use Rattle.sql_meaning.specs.Direct.{direct, entry_row, keeps, item_values, shown}
-use Rattle.sql_meaning.specs.Refused.{is_plain, item_trees, listed, refusal_of}
-use Rattle.sql_meaning.specs.Scope.{Header, columns_of, header, header_of, hidden_by, types_in}
+use Rattle.sql_tree.specs.declared.select.OrderKey.{OrderKey}
+use Rattle.sql_meaning.specs.Answer.{IsAnswer}
+use Rattle.sql_meaning.specs.Bounds.{bound_of}
+use Rattle.sql_meaning.specs.Order.{key_order}
+use Rattle.sql_meaning.specs.Parts.{is_empty, item_trees, listed}
+use Rattle.sql_meaning.specs.Refused.{is_plain, refusal_of}
+use Rattle.sql_meaning.specs.Scope.{Header, header, header_of, hidden_by, is_padded, nullable, scope_of, table_of, types_in}
 use Rattle.sql_meaning.specs.Sizes.{tree_type}
 use Rattle.sql_meaning.specs.Value.{value}
 use Rattle.sql_meaning.proofs.Places.{types-one, length-one}
 use Rattle.sql_to_rel.specs.Numbered.{numbered, IsFull}
-use Rattle.sql_to_rel.proofs.Typed.{typed}
 use Rattle.sql_to_rel.proofs.Types.{type_of-numbered}
 use Rattle.sql_to_rel.proofs.Values.{meaning_of-numbered}
 use Rattle.session_lane.specs.declared.expressions.Expressions.{Expressions}
 use Rattle.session_lane.specs.Outputs.{AreWellFormed, answered, expressions_of, keeps_row, output_of, outputs_of}
 use Rattle.session_lane.proofs.Accepted.{IsRight, AreRight, are_right}
-use Rattle.sql_meaning.proofs.OneEntry.{columns-known, direct_of_one}
+use Rattle.sql_meaning.proofs.OneEntry.{direct_of_one, plain-says, table-known}
 use Rattle.session_lane.proofs.Tables.{IsOver, header-known, scope-known, rows-typed, rows-long, rows-of}
 
 -- ---- a loop over rows
@@ -60,68 +68,67 @@ rows-turn parts table at made answer row e =
     ∙ ap (λ (rs : List (List Value)). answer ++ answered made rs) (sym (from-place (rows_in parts table) at row (row-in parts table at row e)))
 
 -- the columns of one entry are few
-pub few-columns : (h : Header) → length h.columns ≤ COLUMN_LIMIT → length (types_in (h ∷ [])) < 2 ^ 32
-few-columns h few = let e : length (types_in (h ∷ [])) ≡ length h.columns = length-one h in omega arith
+pub few-columns : (h : Header) → length h.table.columns ≤ COLUMN_LIMIT → length (types_in (h ∷ [])) < 2 ^ 32
+few-columns h few = let e : length (types_in (h ∷ [])) ≡ length h.table.columns = length-one h in omega arith
 
 pub ruleset length_rules = (few-columns)
 
 -- ---- the expressions are well formed
 
-some-of : {A : Type 0} (o : Option A) (P : A → Type 0) → IsSomeAnd o P → IsSome o
-some-of None P h = absurd h
-some-of (Some x) P h = search rules
-
-well-formed : (h : Header) (row : List Value) (tree : Tree) → HasTypes row (map (λ c. c.kind) h.columns) → IsRight (h ∷ []) tree → IsWellFormed (numbered (h ∷ []) tree) row
-well-formed h row tree has r =
-    let some : IsSome (tree_type (h ∷ []) tree) = some-of (tree_type (h ∷ []) tree) _ (typed (h ∷ []) tree r.plain r.known r.alike r.fits) in
+well-formed : (rows : ℕ) (h : Header) (row : List Value) (tree : Tree) → HasTypes row (types_in (h ∷ [])) → IsRight rows (h ∷ []) tree → IsWellFormed (numbered (h ∷ []) tree) row
+well-formed rows h row tree has r =
     let P : Option SqlType → Type 0 = λ o. IsSome o in
-    let whole : IsSome (type_of (numbered (h ∷ []) tree) (types_in (h ∷ []))) = subst P (sym (type_of-numbered (h ∷ []) tree)) some in
     record {
-      types = map (λ c. c.kind) h.columns;
+      types = types_in (h ∷ []);
       has_types = has;
-      typed = subst P (ap (type_of (numbered (h ∷ []) tree)) (types-one h)) whole;
+      typed = subst P (sym (type_of-numbered rows (h ∷ []) tree r.plain)) r.typed;
     }
 
-tested : (h : Header) (row : List Value) (filter : Option Tree) → HasTypes row (map (λ c. c.kind) h.columns) → All (IsRight (h ∷ [])) (listed filter)
+tested : (rows : ℕ) (h : Header) (row : List Value) (filter : Option Tree) → HasTypes row (types_in (h ∷ [])) → All (IsRight rows (h ∷ [])) (listed filter)
     → IfSome (option_map (numbered (h ∷ [])) filter) (λ e. IsWellFormed e row)
-tested h row None has r = tt
-tested h row (Some tree) has r = well-formed h row tree has (All-head (IsRight (h ∷ [])) tree [] r)
+tested rows h row None has r = tt
+tested rows h row (Some tree) has r = well-formed rows h row tree has (All-head (IsRight rows (h ∷ [])) tree [] r)
 
 each-item : (P : Tree → Type 0) (items : List Item) → All P (map (λ item. item.tree) items) → All (λ item. P item.tree) items
 each-item P [] h = λ k d lt. absurd (omega arith)
 each-item P (item ∷ items) h = All-cons (λ (i : Item). P i.tree) item items (All-head P item.tree (map (λ i. i.tree) items) h) (each-item P items (All-tail P item.tree (map (λ i. i.tree) items) h))
 
-computed : (h : Header) (row : List Value) (items : Items) → HasTypes row (map (λ c. c.kind) h.columns) → All (IsRight (h ∷ [])) (item_trees items)
+computed : (rows : ℕ) (h : Header) (row : List Value) (items : Items) → HasTypes row (types_in (h ∷ [])) → All (IsRight rows (h ∷ [])) (item_trees items)
     → IfSome (outputs_of (h ∷ []) items) (λ es. All (λ e. IsWellFormed e row) es)
-computed h row Star has r = tt
-computed h row (Listed items) has r =
+computed rows h row Star has r = tt
+computed rows h row (Listed items) has r =
     All-map (λ e. IsWellFormed e row) (λ (item : Item). numbered (h ∷ []) item.tree) items
-    (λ k d lt. well-formed h row (get_or items k d).tree has (each-item (IsRight (h ∷ [])) items r k d lt))
+    (λ k d lt. well-formed rows h row (get_or items k d).tree has (each-item (IsRight rows (h ∷ [])) items r k d lt))
 
-pub ready : (schema : Schema) (select : Select) (entry : FromEntry) (number : ℕ) (table : TableDef) (row : List Value) → IsOver schema select entry number table → is_plain select ≡ true → refusal_of schema select ≡ None
-    → HasTypes row (types_of table) → AreWellFormed (expressions_of (header entry table.columns ∷ []) select) row
+-- the types of the columns of an entry that isn't padded are those of its table
+own-types : (entry : FromEntry) (table : TableDef) → is_padded entry.how ≡ false → types_in (header entry table ∷ []) ≡ types_of table
+own-types entry table e = types-one (header entry table) ∙ ap (λ b. map (λ (c : ColumnDef). if b then nullable c.kind else c.kind) table.columns) e
+
+pub ready : (schema : Schema) (select : Select) (entry : FromEntry) (number : ℕ) (table : TableDef) (row : List Value) → IsOver schema select entry number table → is_plain select ≡ true → refusal_of schema 0 select ≡ None
+    → HasTypes row (types_of table) → AreWellFormed (expressions_of (header entry table ∷ []) select) row
 ready schema select entry number table row over plain accepted has =
-    let P : List Header → Type 0 = λ scope. AreRight scope select in
-    let right : AreRight (header entry table.columns ∷ []) select = subst P (scope-known schema select entry number table over) (are_right schema select plain accepted) in
+    let P : List Header → Type 0 = λ scope. AreRight (bound_of scope) scope select in
+    let right : AreRight (bound_of (header entry table ∷ [])) (header entry table ∷ []) select = subst P (scope-known schema select entry number table over) (are_right schema select plain accepted) in
+    let own : HasTypes row (types_in (header entry table ∷ [])) = subst (HasTypes row) (sym (own-types entry table over.padded)) has in
     record {
-      tested = tested (header entry table.columns) row select.filter has right.filter;
-      computed = computed (header entry table.columns) row select.items has right.items;
+      tested = tested (bound_of (header entry table ∷ [])) (header entry table) row select.filter own right.filter;
+      computed = computed (bound_of (header entry table ∷ [])) (header entry table) row select.items own right.items;
     }
 
 -- ---- the values are those of the SELECT
 
 value-same : (schema : Schema) (select : Select) (entry : FromEntry) (number : ℕ) (table : TableDef) (row : List Value) → IsOver schema select entry number table → length row ≡ length table.columns → (tree : Tree)
-    → meaning_of (numbered (header entry table.columns ∷ []) tree) row ≡ value (entry_row schema entry row ∷ []) tree
+    → meaning_of (numbered (header entry table ∷ []) tree) row ≡ value (entry_row schema entry row ∷ []) tree
 value-same schema select entry number table row over long tree =
     ap (λ (h : Header). meaning_of (numbered (h ∷ []) tree) row) (sym (header-known schema select entry number table over))
     ∙ ap (meaning_of (numbered (header_of schema entry ∷ []) tree)) (sym (append-nil row))
     ∙ meaning_of-numbered (entry_row schema entry row ∷ []) (All-cons IsFull (entry_row schema entry row) [] full (λ k d lt. absurd (omega arith))) tree
   where
-    full : length row ≡ length (columns_of schema entry.table)
-    full = long ∙ ap length (sym (columns-known schema entry.table number table over.found over.within over.is))
+    full : length row ≡ length ((table_of schema entry.table).columns)
+    full = long ∙ ap (λ (t : TableDef). length t.columns) (sym (table-known schema entry.table number table over.found over.within over.is))
 
 keeps-same : (schema : Schema) (select : Select) (entry : FromEntry) (number : ℕ) (table : TableDef) (row : List Value) → IsOver schema select entry number table → length row ≡ length table.columns → (filter : Option Tree)
-    → keeps_row (option_map (numbered (header entry table.columns ∷ [])) filter) row ≡ keeps filter (entry_row schema entry row ∷ [])
+    → keeps_row (option_map (numbered (header entry table ∷ [])) filter) row ≡ keeps filter (entry_row schema entry row ∷ [])
 keeps-same schema select entry number table row over long None = refl
 keeps-same schema select entry number table row over long (Some tree) = ap is_true (value-same schema select entry number table row over long tree)
 
@@ -134,19 +141,19 @@ all-shown (c ∷ columns) (v ∷ row) e = ap (λ rest. v ∷ rest) (all-shown co
 star-same : (schema : Schema) (select : Select) (entry : FromEntry) (number : ℕ) (table : TableDef) (row : List Value) → IsOver schema select entry number table → length row ≡ length table.columns
     → row ≡ item_values Star (entry_row schema entry row ∷ [])
 star-same schema select entry number table row over long =
-    sym (append-nil (shown (hidden_by entry.how) (columns_of schema entry.table) row)
-    ∙ ap (λ hidden. shown hidden (columns_of schema entry.table) row) over.shown
-    ∙ all-shown (columns_of schema entry.table) row (long ∙ ap length (sym (columns-known schema entry.table number table over.found over.within over.is))))
+    sym (append-nil (shown (hidden_by entry.how) ((table_of schema entry.table).columns) row)
+    ∙ ap (λ hidden. shown hidden ((table_of schema entry.table).columns) row) over.shown
+    ∙ all-shown ((table_of schema entry.table).columns) row (long ∙ ap (λ (t : TableDef). length t.columns) (sym (table-known schema entry.table number table over.found over.within over.is))))
 
 items-same : (schema : Schema) (select : Select) (entry : FromEntry) (number : ℕ) (table : TableDef) (row : List Value) → IsOver schema select entry number table → length row ≡ length table.columns → (items : List Item)
-    → map (λ e. meaning_of e row) (map (λ item. numbered (header entry table.columns ∷ []) item.tree) items) ≡ map (λ item. value (entry_row schema entry row ∷ []) item.tree) items
+    → map (λ e. meaning_of e row) (map (λ item. numbered (header entry table ∷ []) item.tree) items) ≡ map (λ item. value (entry_row schema entry row ∷ []) item.tree) items
 items-same schema select entry number table row over long [] = refl
 items-same schema select entry number table row over long (item ∷ items) =
-    ap (λ v. v ∷ map (λ e. meaning_of e row) (map (λ (i : Item). numbered (header entry table.columns ∷ []) i.tree) items)) (value-same schema select entry number table row over long item.tree)
+    ap (λ v. v ∷ map (λ e. meaning_of e row) (map (λ (i : Item). numbered (header entry table ∷ []) i.tree) items)) (value-same schema select entry number table row over long item.tree)
     ∙ ap (λ rest. value (entry_row schema entry row ∷ []) item.tree ∷ rest) (items-same schema select entry number table row over long items)
 
 output-same : (schema : Schema) (select : Select) (entry : FromEntry) (number : ℕ) (table : TableDef) (row : List Value) → IsOver schema select entry number table → length row ≡ length table.columns → (items : Items)
-    → output_of (outputs_of (header entry table.columns ∷ []) items) row ≡ item_values items (entry_row schema entry row ∷ [])
+    → output_of (outputs_of (header entry table ∷ []) items) row ≡ item_values items (entry_row schema entry row ∷ [])
 output-same schema select entry number table row over long Star = star-same schema select entry number table row over long
 output-same schema select entry number table row over long (Listed items) = items-same schema select entry number table row over long items
 
@@ -162,7 +169,7 @@ alike p q f g (row ∷ rows) h k =
     by false e rest = rest
 
 pub answered-whole : (schema : Schema) (select : Select) (entry : FromEntry) (number : ℕ) (table : TableDef) (db : Db) → IsOver schema select entry number table → is_plain select ≡ true → AreFilledBy schema.tables db.tables
-    → answered (expressions_of (header entry table.columns ∷ []) select) (unwrap_or (slice_get db.tables number) []) ≡ direct select schema db
+    → answered (expressions_of (header entry table ∷ []) select) (unwrap_or (slice_get db.tables number) []) ≡ direct select schema db
 answered-whole schema select entry number table db over plain filled =
     alike _ _ _ _ rows
     (λ k d lt. keeps-same schema select entry number table (get_or rows k d) over (long k d lt) select.filter)
@@ -178,26 +185,42 @@ answered-whole schema select entry number table db over plain filled =
 
 -- ---- the steps of an answer
 
--- the expressions over these columns, which are those of the table
-pub record AreMade (select : Select) (entry : FromEntry) (table : TableDef) (columns : List ColumnDef) (made : Expressions) : Type 0 where
-  pub columns_are : columns ≡ table.columns
-  pub made_are : made ≡ expressions_of (header entry columns ∷ []) select
+-- the expressions over the table
+pub record AreMade (select : Select) (entry : FromEntry) (table : TableDef) (made : Expressions) : Type 0 where
+  pub made_are : made ≡ expressions_of (header entry table ∷ []) select
 
-over-table : (select : Select) (entry : FromEntry) (table : TableDef) (columns : List ColumnDef) (made : Expressions) → AreMade select entry table columns made → made ≡ expressions_of (header entry table.columns ∷ []) select
-over-table select entry table columns made m = m.made_are ∙ ap (λ (cs : List ColumnDef). expressions_of (header entry cs ∷ []) select) m.columns_are
-
-pub all_ready : (schema : Schema) (select : Select) (entry : FromEntry) (number : ℕ) (table : TableDef) (tables : List (List (List Value))) (columns : List ColumnDef) (made : Expressions)
-    → IsOver schema select entry number table → is_plain select ≡ true → refusal_of schema select ≡ None → AreFilledBy schema.tables tables → AreMade select entry table columns made
+pub all_ready : (schema : Schema) (select : Select) (entry : FromEntry) (number : ℕ) (table : TableDef) (tables : List (List (List Value))) (made : Expressions)
+    → IsOver schema select entry number table → is_plain select ≡ true → refusal_of schema 0 select ≡ None → AreFilledBy schema.tables tables → AreMade select entry table made
     → All (AreWellFormed made) (unwrap_or (slice_get tables number) [])
-all_ready schema select entry number table tables columns made over plain accepted filled m =
+all_ready schema select entry number table tables made over plain accepted filled m =
     let P : Expressions → Type 0 = λ x. All (AreWellFormed x) (unwrap_or (slice_get tables number) []) in
-    subst P (sym (over-table select entry table columns made m))
+    subst P (sym m.made_are)
     (λ k d lt. ready schema select entry number table (get_or (unwrap_or (slice_get tables number) []) k d) over plain accepted (rows-typed schema.tables tables number table filled over.within over.is k d lt))
 
-pub all_answered : (schema : Schema) (select : Select) (entry : FromEntry) (number : ℕ) (table : TableDef) (db : Db) (columns : List ColumnDef) (made : Expressions) (answer : List (List Value))
-    → IsOver schema select entry number table → is_plain select ≡ true → AreFilledBy schema.tables db.tables → AreMade select entry table columns made
+pub all_answered : (schema : Schema) (select : Select) (entry : FromEntry) (number : ℕ) (table : TableDef) (db : Db) (made : Expressions) (answer : List (List Value))
+    → IsOver schema select entry number table → is_plain select ≡ true → AreFilledBy schema.tables db.tables → AreMade select entry table made
     → answer ≡ answered made (unwrap_or (slice_get db.tables number) []) → answer ≡ direct select schema db
-all_answered schema select entry number table db columns made answer over plain filled m e =
+all_answered schema select entry number table db made answer over plain filled m e =
     e
-    ∙ ap (λ (x : Expressions). answered x (unwrap_or (slice_get db.tables number) [])) (over-table select entry table columns made m)
+    ∙ ap (λ (x : Expressions). answered x (unwrap_or (slice_get db.tables number) [])) m.made_are
     ∙ answered-whole schema select entry number table db over plain filled
+
+-- ---- in the order that is asked, which is none
+
+none-long : (n : ℕ) → (n == 0) ≡ true → n ≡ 0
+none-long n e = grind (arith, nat_tests)
+
+no-order : (order : List OrderKey) → is_empty order ≡ true → order ≡ []
+no-order [] e = refl
+no-order (key ∷ keys) e = let none : length (key ∷ keys) ≡ 0 = none-long (length (key ∷ keys)) e in absurd (omega arith)
+
+unordered : (rows : List (List Value)) → IsInOrder [] rows
+unordered rows = search rules
+
+pub is_answer : (schema : Schema) (select : Select) (db : Db) (rows : List (List Value)) → is_plain select ≡ true → rows ≡ direct select schema db → IsAnswer select schema db rows
+is_answer schema select db rows plain e =
+    let P : List OrderKey → Type 0 = λ order. IsInOrder (filter_map (key_order (scope_of schema select) select.items) order) rows in
+    record {
+      bag = λ r. ap (count_by (row_eq r)) e;
+      order = subst P (sym (no-order select.order (plain-says select plain).no_order)) (unordered rows);
+    }

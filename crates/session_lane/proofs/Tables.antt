@@ -1,5 +1,5 @@
 -- The table of a SELECT over one entry of FROM, and its rows.
-use Rattle.std.proofs.Common.{◌≡◌, ◌<◌, ◌∙◌, ap, sym, subst, refl, arith, ℕ, zero, suc, List, [], ◌∷◌, length, map, All, get_or, Option, Some, IsSome, option_map, unwrap_or, slice_get}
+use Rattle.std.proofs.Common.{◌≡◌, ◌<◌, ◌∙◌, ap, sym, subst, refl, arith, ℕ, zero, suc, false, List, [], ◌∷◌, length, map, All, get_or, Option, Some, IsSome, option_map, unwrap_or, slice_get}
 use Rattle.std.specs.Option.{option_and_then}
 use Rattle.std.proofs.Common.{rules}
 use Rattle.std.proofs.lemmas.List.{length-map}
@@ -18,21 +18,22 @@ use Rattle.sql_tree.specs.declared.select.TableName.{TableName}
 use Rattle.cal_schema.specs.Lookup.{is_named}
 use Rattle.cal_schema.proofs.NameLemmas.{position-below}
 use Rattle.sql_meaning.specs.Direct.{rows_of}
-use Rattle.sql_meaning.proofs.OneEntry.{columns-known}
-use Rattle.sql_meaning.specs.Scope.{Header, number_of, columns_of, hidden_by, header, header_of, scope_of}
+use Rattle.sql_meaning.proofs.OneEntry.{table-known}
+use Rattle.sql_meaning.specs.Scope.{Header, number_of, hidden_by, is_padded, header, header_of, scope_of}
 
 -- the SELECT has one entry, which hides no column and whose table is this one
 pub record IsOver (schema : Schema) (select : Select) (entry : FromEntry) (number : ℕ) (table : TableDef) : Type 0 where
   pub only : select.from ≡ entry ∷ []
   pub shown : hidden_by entry.how ≡ []
+  pub padded : is_padded entry.how ≡ false
   pub found : Some number ≡ number_of schema entry.table
   pub within : number < length schema.tables
   pub is : table ≡ get_or schema.tables number table
 
-pub header-known : (schema : Schema) (select : Select) (entry : FromEntry) (number : ℕ) (table : TableDef) → IsOver schema select entry number table → header_of schema entry ≡ header entry table.columns
-header-known schema select entry number table over = ap (header entry) (columns-known schema entry.table number table over.found over.within over.is)
+pub header-known : (schema : Schema) (select : Select) (entry : FromEntry) (number : ℕ) (table : TableDef) → IsOver schema select entry number table → header_of schema entry ≡ header entry table
+header-known schema select entry number table over = ap (header entry) (table-known schema entry.table number table over.found over.within over.is)
 
-pub scope-known : (schema : Schema) (select : Select) (entry : FromEntry) (number : ℕ) (table : TableDef) → IsOver schema select entry number table → scope_of schema select ≡ header entry table.columns ∷ []
+pub scope-known : (schema : Schema) (select : Select) (entry : FromEntry) (number : ℕ) (table : TableDef) → IsOver schema select entry number table → scope_of schema select ≡ header entry table ∷ []
 scope-known schema select entry number table over = ap (map (header_of schema)) over.only ∙ ap (λ (h : Header). h ∷ []) (header-known schema select entry number table over)
 
 -- ---- its rows
@@ -77,13 +78,14 @@ pub number-known : (schema : Schema) (from : List FromEntry) (entry : FromEntry)
 number-known schema from entry [] e f = let g : [] ≡ number_of schema entry.table ∷ [] = e ∙ ap (map (λ (x : FromEntry). number_of schema x.table)) f in absurd (cc)
 number-known schema from entry (t ∷ ts) e f = let g : Some t ∷ map Some ts ≡ number_of schema entry.table ∷ [] = e ∙ ap (map (λ (x : FromEntry). number_of schema x.table)) f in cc
 
-pub is_over : (schema : Schema) (select : Select) (entry : FromEntry) (tables : List ℕ) (table : TableDef) → select.from ≡ entry ∷ [] → hidden_by entry.how ≡ [] → map Some tables ≡ map (λ (e : FromEntry). number_of schema e.table) select.from
+pub is_over : (schema : Schema) (select : Select) (entry : FromEntry) (tables : List ℕ) (table : TableDef) → select.from ≡ entry ∷ [] → hidden_by entry.how ≡ [] → is_padded entry.how ≡ false → map Some tables ≡ map (λ (e : FromEntry). number_of schema e.table) select.from
     → table ≡ get_or schema.tables (get_or tables 0 0) table → IsOver schema select entry (get_or tables 0 0) table
-is_over schema select entry tables table only shown numbers is =
+is_over schema select entry tables table only shown padded numbers is =
     let found : Some (get_or tables 0 0) ≡ number_of schema entry.table = number-known schema select.from entry tables numbers only in
     record {
       only = only;
       shown = shown;
+      padded = padded;
       found = found;
       within = position-below (is_named schema entry.table.schema entry.table.name) schema.tables (get_or tables 0 0) (sym found);
       is = is;

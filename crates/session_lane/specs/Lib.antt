@@ -1,2 +1,4 @@
 pub mod Narrow
 pub mod Outputs
+pub mod Replies
+pub mod Statements

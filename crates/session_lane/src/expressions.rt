@@ -5,7 +5,7 @@ ghost use Rattle.sql_to_rel.specs.Numbered.{numbered};
 ghost use Rattle.session_lane.specs.Outputs.{expressions_of, outputs_of};
 
 use cal_expr::Expr;
-use cal_schema::ColumnDef;
+use cal_schema::TableDef;
 use cal_value::{COLUMN_LIMIT, List, NoMemory};
 use sql_meaning::Entry;
 use sql_to_rel::expression;
@@ -72,18 +72,18 @@ fn expressions_in(
     Ok(Expressions { condition, outputs })
 }
 
-/// The expressions of a SELECT over this entry of FROM and the columns of its table.
+/// The expressions of a SELECT over this entry of FROM and its table.
 #[tactic(auto, using(crate::proofs::Answered::length_rules))]
 pub(crate) fn expressions_over(
     alloc: Global,
     select: &Select,
     entry: &FromEntry,
-    columns: &[ColumnDef],
+    table: &TableDef,
 ) -> Result<Expressions, NoMemory>
-    requires { length columns.now ≤ COLUMN_LIMIT }
+    requires { length table.now.columns ≤ COLUMN_LIMIT }
     ensures { IfOk result (λ made.
-        made ≡ expressions_of (header entry.now columns.now ∷ []) select.now) }
+        made ≡ expressions_of (header entry.now table.now ∷ []) select.now) }
 {
-    let scope = [Entry::new(entry, columns)];
+    let scope = [Entry::new(entry, table)];
     expressions_in(alloc, select, &scope)
 }

@@ -3,8 +3,12 @@
 
 mod answer;
 mod expressions;
+mod laws;
 mod reply;
 mod rows;
+mod statement;
 
 pub use answer::{Answer, answer_select};
+pub use laws::one_reply_is_right;
 pub use reply::{Cause, Reply};
+pub use statement::reply_to;

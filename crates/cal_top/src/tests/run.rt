@@ -57,7 +57,11 @@ fn file_of(alloc: Global, file: &File<'_>) -> Result<MemFile, NoMemory> {
     Ok(MemFile { name, bytes })
 }
 
-fn store_of(alloc: Global, all: &[File<'_>], failing: &[u64]) -> Result<MemStore, NoMemory> {
+pub(crate) fn store_of(
+    alloc: Global,
+    all: &[File<'_>],
+    failing: &[u64],
+) -> Result<MemStore, NoMemory> {
     let mut files = List::new(alloc);
     for file in all {
         let file = file_of(alloc, file)?;

@@ -5,27 +5,29 @@ ghost use Rattle.cal_schema.specs.Fits.{Fits};
 ghost use Rattle.cal_schema.specs.Valid.{IsValidSchema};
 ghost use Rattle.cal_schema.specs.declared.refusal.Refusal.TheVariants as refused;
 ghost use Rattle.sql_meaning.specs.Refused as meaning;
-ghost use Rattle.sql_parser.specs.Answers.{IsWithinLimits};
+ghost use Rattle.sql_parser.specs.Answers.{IsStatement, IsWithinLimits};
 ghost use Rattle.sql_parser.specs.Grammar.{Spells};
-ghost use Rattle.session_lane.specs.declared.reply.Cause.TheVariants as causes;
-ghost use Rattle.session_lane.specs.declared.reply.Reply.TheVariants as replies;
 ghost use Rattle.sql_tree.specs.declared.statement.Statement.TheVariants.{Select as SelectOf};
 ghost use Rattle.sql_validator.specs.Checked.{IsChecked};
-ghost use Rattle.cal_top.specs.Replies.{Answers, IsReplyTo};
-ghost use Rattle.cal_top.specs.Statements.{IsStatement, IsNoStatement, IsParseRefusal};
+ghost use Rattle.sql_validator.specs.declared.checked.Checked.TheVariants as checked;
+ghost use Rattle.session_lane.specs.declared.reply.Cause.TheVariants as causes;
+ghost use Rattle.session_lane.specs.declared.reply.Reply.TheVariants as replies;
+ghost use Rattle.session_lane.specs.Replies.{Answers, IsReplyTo};
+ghost use Rattle.session_lane.specs.Statements.{IsNoStatement, IsParseRefusal, IsOfSelect};
 
+use crate::answer::answer_select;
+use crate::reply::{Cause, Reply};
 use cal_schema::{Refusal, Schema};
 use cal_snapshot::Snapshot;
 use cal_value::{List, NoMemory};
-use session_lane::{Cause, Reply, answer_select};
 use sql_parser::{ParseFault, parse};
 use sql_text::{Token, TokenFault, tokens};
 use sql_tree::{Select, Statement};
-use sql_validator::{CheckedSelect, is_plain, validate};
+use sql_validator::{Checked, CheckedSelect, is_plain, validate};
 use std::alloc::Global;
 
 fn parsed(alloc: Global, tokens: &List<Token>) -> Result<Statement, Refusal>
-    ensures within { IfOk result (λ statement. IsWithinLimits tokens.now) }
+    ensures within { OnOk result (IsWithinLimits tokens.now) }
     ensures spelled { IfOk result (λ statement. Spells tokens.now statement) }
     ensures fault { IfErr result (λ cause. IsParseRefusal tokens.now cause) }
 {
@@ -41,7 +43,8 @@ fn parsed(alloc: Global, tokens: &List<Token>) -> Result<Statement, Refusal>
 // The statement that a text is.
 fn statement_of(alloc: Global, text: &str) -> Result<Statement, Refusal>
     ensures statement { IfOk result (IsStatement (chars text.now)) }
-    ensures fault { IfErr result (λ cause. cause ≢ refused.NoMemory → IsNoStatement (chars text.now) cause) }
+    ensures fault { IfErr result (λ cause.
+        cause ≢ refused.NoMemory → IsNoStatement (chars text.now) cause) }
 {
     match tokens(alloc, text) {
         Ok(tokens) => parsed(alloc, &tokens),
@@ -63,42 +66,55 @@ fn refused(cause: Refusal) -> Result<Reply, NoMemory>
     }
 }
 
-// The rows of an accepted SELECT.
+// The SELECT of an accepted statement that is one.
+fn select_of(made: Checked) -> CheckedSelect
+    requires { IsOfSelect made }
+    ensures { made ≡ checked.Select result }
+{
+    match made {
+        Checked::Select(made) => made,
+        _ => unreachable!(),
+    }
+}
+
+// The rows of an accepted SELECT of a form that is answered.
 fn answered(
     alloc: Global,
-    checked: CheckedSelect,
+    made: CheckedSelect,
     schema: &Schema,
     snapshot: &Snapshot,
 ) -> Result<Reply, NoMemory>
-    requires plain { meaning.is_plain checked.select ≡ true }
-    requires checked { IsChecked schema.now checked.select checked }
+    requires plain { meaning.is_plain made.select ≡ true }
+    requires checked { IsChecked schema.now 0 made.select made }
     requires valid { IsValidSchema schema.now }
     requires fits { Fits (record { tables = snapshot.now.tables }) schema.now }
-    ensures { IfOk result (Answers schema.now (record { tables = snapshot.now.tables }) (SelectOf checked.select)) }
+    ensures { IfOk result (Answers schema.now
+        (record { tables = snapshot.now.tables }) (SelectOf made.select)) }
 {
-    let answer = answer_select(alloc, &checked, schema, snapshot)?;
+    let answer = answer_select(alloc, &made, schema, snapshot)?;
     Ok(Reply::Rows {
         at: 0,
-        names: checked.names,
+        names: made.names,
         answer,
     })
 }
 
-// The reply to a SELECT of a form that is answered.
-fn reply_to_plain(
+fn reply_to_accepted(
     alloc: Global,
-    select: Select,
+    made: CheckedSelect,
     schema: &Schema,
     snapshot: &Snapshot,
 ) -> Result<Reply, NoMemory>
-    requires plain { meaning.is_plain select ≡ true }
+    requires checked { IsChecked schema.now 0 made.select made }
     requires valid { IsValidSchema schema.now }
     requires fits { Fits (record { tables = snapshot.now.tables }) schema.now }
-    ensures { IfOk result (Answers schema.now (record { tables = snapshot.now.tables }) (SelectOf select)) }
+    ensures { IfOk result (Answers schema.now
+        (record { tables = snapshot.now.tables }) (SelectOf made.select)) }
 {
-    match validate(alloc, select, schema) {
-        Ok(checked) => answered(alloc, checked, schema, snapshot),
-        Err(cause) => refused(cause),
+    if is_plain(&made.select) {
+        answered(alloc, made, schema, snapshot)
+    } else {
+        refused(Refusal::NotYet)
     }
 }
 
@@ -110,12 +126,12 @@ fn reply_to_select(
 ) -> Result<Reply, NoMemory>
     requires valid { IsValidSchema schema.now }
     requires fits { Fits (record { tables = snapshot.now.tables }) schema.now }
-    ensures { IfOk result (Answers schema.now (record { tables = snapshot.now.tables }) (SelectOf select)) }
+    ensures { IfOk result (Answers schema.now
+        (record { tables = snapshot.now.tables }) (SelectOf select)) }
 {
-    if is_plain(&select) {
-        reply_to_plain(alloc, select, schema, snapshot)
-    } else {
-        refused(Refusal::NotYet)
+    match validate(alloc, Statement::Select(select), schema) {
+        Ok(made) => reply_to_accepted(alloc, select_of(made), schema, snapshot),
+        Err(cause) => refused(cause),
     }
 }
 
@@ -127,7 +143,8 @@ fn reply_to_statement(
 ) -> Result<Reply, NoMemory>
     requires valid { IsValidSchema schema.now }
     requires fits { Fits (record { tables = snapshot.now.tables }) schema.now }
-    ensures { IfOk result (Answers schema.now (record { tables = snapshot.now.tables }) statement) }
+    ensures { IfOk result (Answers schema.now
+        (record { tables = snapshot.now.tables }) statement) }
 {
     match statement {
         Statement::Select(select) => reply_to_select(alloc, select, schema, snapshot),
@@ -141,8 +158,9 @@ fn reply_to_statement(
     }
 }
 
-/// The reply to a text: rows where it is a SELECT that is answered, and otherwise the first cause why it isn't.
-pub(crate) fn reply_to(
+/// The reply to a text: rows where it is a SELECT that is answered, and otherwise the first cause why it isn't. The schema
+/// is valid, and the tables of the snapshot fit it.
+pub fn reply_to(
     alloc: Global,
     text: &str,
     schema: &Schema,
@@ -150,7 +168,8 @@ pub(crate) fn reply_to(
 ) -> Result<Reply, NoMemory>
     requires valid { IsValidSchema schema.now }
     requires fits { Fits (record { tables = snapshot.now.tables }) schema.now }
-    ensures { IfOk result (IsReplyTo schema.now (record { tables = snapshot.now.tables }) (chars text.now)) }
+    ensures { IfOk result (IsReplyTo schema.now
+        (record { tables = snapshot.now.tables }) (chars text.now)) }
 {
     match statement_of(alloc, text) {
         Ok(statement) => reply_to_statement(alloc, statement, schema, snapshot),

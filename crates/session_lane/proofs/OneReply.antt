@@ -1,16 +1,17 @@
--- At most one reply is right for a text.
+-- Two right replies to a text are the same up to the order of rows.
 use Rattle.std.proofs.Common.{◌≡◌, ◌≤◌, ◌<◌, ℕ, List, Option, Some, None, ◌⊎◌, inl, inr, sym, ap, subst, ◌∙◌, arith, refl}
-use Rattle.std.specs.Prelude.{◌≢◌}
+use Rattle.std.specs.Prelude.{◌≢◌, count_by}
 use Rattle.cal_schema.specs.declared.database.Db.{Db}
 use Rattle.cal_schema.specs.declared.refusal.Refusal.{Refusal}
 use Rattle.cal_schema.specs.declared.refusal.Refusal.TheVariants as refused
 use Rattle.cal_schema.specs.declared.schema.Schema.{Schema}
 use Rattle.cal_value.specs.declared.value.Value.{Value}
-use Rattle.session_lane.specs.declared.answer.Answer.{Answer}
+use Rattle.cal_value.specs.Equal.{row_eq}
+use Rattle.cal_value.specs.Order.{SameBag}
 use Rattle.session_lane.specs.declared.reply.Cause.TheVariants.{Text}
 use Rattle.session_lane.specs.declared.reply.Reply.{Reply}
 use Rattle.session_lane.specs.declared.reply.Reply.TheVariants.{Rows, Refused}
-use Rattle.sql_parser.specs.Answers.{IsWithinLimits, IsFaultOf}
+use Rattle.sql_parser.specs.Answers.{HasFault, IsStatement, IsWithinLimits, IsFaultOf}
 use Rattle.sql_parser.specs.Grammar.{Spells}
 use Rattle.sql_expressions.specs.declared.fault.ParseFault.{ParseFault}
 use Rattle.sql_expressions.specs.declared.fault.ParseFault.TheVariants as parse
@@ -19,11 +20,12 @@ use Rattle.sql_tree.specs.declared.select.Select.{Select}
 use Rattle.sql_tree.specs.declared.statement.Statement.{Statement}
 use Rattle.sql_tree.specs.declared.statement.Statement.TheVariants.{Select as SelectOf}
 use Rattle.sql_text.specs.declared.token.Token.{Token}
+use Rattle.sql_meaning.specs.Answer.{IsAnswer}
 use Rattle.sql_meaning.specs.Direct.{direct}
 use Rattle.sql_meaning.specs.Names.{output_names}
 use Rattle.sql_meaning.specs.Scope.{scope_of}
-use Rattle.cal_top.specs.Statements.{IsStatement, IsNoStatement, HasFault, refusal_in}
-use Rattle.cal_top.specs.Replies.{IsAnswered, Answers, AnswersText, TellsNoStatement, IsReplyTo}
+use Rattle.session_lane.specs.Statements.{IsNoStatement}
+use Rattle.session_lane.specs.Replies.{IsAnswered, Answers, AnswersText, AreSameReplies, TellsNoStatement, IsReplyTo}
 
 -- what is known of texts and tokens
 pub record ReadOneWay : Type 0 where
@@ -76,9 +78,17 @@ why text refused.NotSql is = inr (record { fault = parse.NotSql; other = not_sql
 why text refused.NotAQuery is = absurd is
 why text refused.NotYet is = absurd is
 why text (refused.UnknownTable name) is = absurd is
+why text (refused.UnknownLattice name) is = absurd is
+why text (refused.TooManyTables limit) is = absurd is
 why text (refused.UnknownColumn name) is = absurd is
+why text (refused.Ambiguous name) is = absurd is
 why text (refused.TypeClash place) is = absurd is
+why text (refused.AggregateMisplaced place) is = absurd is
+why text (refused.NotGrouped place) is = absurd is
+why text (refused.OrderKey place) is = absurd is
 why text (refused.MayNotFit place lo hi) is = absurd is
+why text (refused.BadRow row column) is = absurd is
+why text refused.NotRefreshable is = absurd is
 why text refused.NoMemory is = absurd is
 
 same_cause : (ts : List Token) (f g : ParseFault) → f ≢ parse.NoMemory → g ≢ parse.NoMemory → IsFaultOf ts f → IsFaultOf ts g → cause_of f ≡ cause_of g
@@ -133,28 +143,26 @@ some_same a b e = Prim.cc
 none_some : (a : Refusal) → None ≡ Some a → ⊥
 none_some a e = Prim.cc
 
+same_bag : (schema : Schema) (db : Db) (s t : Select) (rows rows' : List (List Value)) → s ≡ t → IsAnswer s schema db rows → IsAnswer t schema db rows' → SameBag rows rows'
+same_bag schema db s t rows rows' e p q = λ r. p.bag r ∙ ap (λ (x : Select). count_by (row_eq r) (direct x schema db)) e ∙ sym (q.bag r)
+
 same_rows : (schema : Schema) (db : Db) (s : Statement) (at at' : ℕ) (names names' : List (List ℕ)) (rows rows' : List (List Value))
-    → IsAnswered schema db s at names rows → IsAnswered schema db s at' names' rows'
-    → Rows at names (record { rows = rows }) ≡ Rows at' names' (record { rows = rows' })
+    → IsAnswered schema db s at names rows → IsAnswered schema db s at' names' rows' → (at ≡ at') × (names ≡ names') × SameBag rows rows'
 same_rows schema db s at at' names names' rows rows' p q =
     let select = select_same p.select q.select (sym p.is_select ∙ q.is_select) in
-    let place : at ≡ at' = p.place ∙ sym q.place in
     let names_same : names ≡ names' = p.names_are ∙ ap (λ (x : Select). output_names (scope_of schema x) x.items) select ∙ sym q.names_are in
-    let rows_same : rows ≡ rows' = p.rows_are ∙ ap (λ (x : Select). direct x schema db) select ∙ sym q.rows_are in
-    ap (λ (n : ℕ). Rows n names (record { rows = rows })) place
-    ∙ ap (λ (ns : List (List ℕ)). Rows at' ns (record { rows = rows })) names_same
-    ∙ ap (λ (rs : List (List Value)). Rows at' names' (record { rows = rs })) rows_same
+    (p.place ∙ sym q.place, names_same, same_bag schema db p.select q.select rows rows' select p.rows_are q.rows_are)
 
-same_refused : (at at' : Option ℕ) (a b : Refusal) → at ≡ None → at' ≡ None → a ≡ b → Refused at (Text a) ≡ Refused at' (Text b)
-same_refused at at' a b p q e = ap (λ (x : Option ℕ). Refused x (Text a)) (p ∙ sym q) ∙ ap (λ (c : Refusal). Refused at' (Text c)) e
+same_refused : (at at' : Option ℕ) (a b : Refusal) → at ≡ None → at' ≡ None → a ≡ b → (at ≡ at') × (Text a ≡ Text b)
+same_refused at at' a b p q e = (p ∙ sym q, ap (λ (c : Refusal). Text c) e)
 
-same_answer : (schema : Schema) (db : Db) (s : Statement) (a b : Reply) → Answers schema db s a → Answers schema db s b → a ≡ b
+same_answer : (schema : Schema) (db : Db) (s : Statement) (a b : Reply) → Answers schema db s a → Answers schema db s b → AreSameReplies a b
 same_answer schema db s (Rows at names answer) (Rows at' names' answer') p q = same_rows schema db s at at' names names' answer.rows answer'.rows p q
 same_answer schema db s (Rows at names answer) (Refused at' (Text c)) p q = absurd (none_some c (sym p.accepted ∙ q.1))
 same_answer schema db s (Refused at (Text c)) (Rows at' names' answer') p q = absurd (none_some c (sym q.accepted ∙ p.1))
 same_answer schema db s (Refused at (Text c)) (Refused at' (Text c')) p q = same_refused at at' c c' p.0 q.0 (some_same c c' (sym p.1 ∙ q.1))
 
-same_none : ReadOneWay → (text : List ℕ) (a b : Reply) → TellsNoStatement text a → TellsNoStatement text b → a ≡ b
+same_none : ReadOneWay → (text : List ℕ) (a b : Reply) → TellsNoStatement text a → TellsNoStatement text b → AreSameReplies a b
 same_none way text (Rows at names answer) b p q = absurd p
 same_none way text (Refused at (Text c)) (Rows at' names' answer') p q = absurd q
 same_none way text (Refused at (Text c)) (Refused at' (Text c')) p q = same_refused at at' c c' p.0 q.0 (same_refusal way text c c' p.1 q.1)
@@ -163,7 +171,7 @@ not_both : ReadOneWay → (text : List ℕ) (x : Statement) (b : Reply) → IsSt
 not_both way text x (Rows at names answer) p q = q
 not_both way text x (Refused at (Text c)) p q = never_both way text x c p q.1
 
-pub one_reply : ReadOneWay → (schema : Schema) (db : Db) (text : List ℕ) (a b : Reply) → IsReplyTo schema db text a → IsReplyTo schema db text b → a ≡ b
+pub one_reply : ReadOneWay → (schema : Schema) (db : Db) (text : List ℕ) (a b : Reply) → IsReplyTo schema db text a → IsReplyTo schema db text b → AreSameReplies a b
 one_reply way schema db text a b (inl p) (inl q) =
     let s = same_statement way text q.statement p.statement q.is_statement p.is_statement in
     same_answer schema db p.statement a b p.answers (subst (λ (x : Statement). Answers schema db x b) s q.answers)

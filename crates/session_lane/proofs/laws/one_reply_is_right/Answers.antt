@@ -1,5 +1,5 @@
-use Rattle.cal_top.proofs.OneReply.{one_reply}
-use Rattle.cal_top.proofs.laws.one_reply_is_right.Goals as goal
+use Rattle.session_lane.proofs.OneReply.{one_reply}
+use Rattle.session_lane.proofs.laws.one_reply_is_right.Goals as goal
 
 pub returns : goal.returns
 returns c =
