@@ -3,6 +3,4 @@ mod devices;
 mod files;
 mod phases;
 mod queries;
-mod refusals;
 mod run;
-mod statements;
