@@ -1,7 +1,7 @@
 ghost use Rattle.std.specs.Prelude.{◌≡◌, IfOk, length};
 
 use crate::{
-    AdapterKind, ColumnDef, ColumnFault, Db, Measure, Schema, TableDef, TileInfo, TileKey,
+    AdapterKind, ColumnDef, ColumnFault, Db, Measure, RelType, Schema, TableDef, TileInfo, TileKey,
     is_compressed,
 };
 use cal_value::{Agg, Duplicate, Interval, Kind, List, NoMemory, SqlText, SqlType, Value};
@@ -207,5 +207,27 @@ fn a_database_is_copied(rt: HostRuntime) -> Result<(), Fail> {
         tables: three_tables(alloc)?,
     };
     assert_eq!(rt; schema.copy(alloc)?.table(None, "U"), Some(1));
+    Ok(())
+}
+
+fn number(nullable: bool, lo: i128, hi: i128) -> SqlType {
+    SqlType::integer(nullable, Interval::Range { lo, hi })
+}
+
+fn rows_of(alloc: Global, first: SqlType, bound: u128) -> Result<RelType, NoMemory> {
+    let mut columns = List::new(alloc);
+    columns.push(first)?;
+    columns.push(SqlType::text(true))?;
+    Ok(RelType { columns, bound })
+}
+
+#[test]
+fn what_two_types_of_rows_say(rt: HostRuntime) -> Result<(), NoMemory> {
+    let alloc = rt.alloc();
+    let wide = rows_of(alloc, number(true, -5, 9), 7)?;
+    let other = rows_of(alloc, number(false, 0, 20), 12)?;
+    let both = rows_of(alloc, number(false, 0, 9), 7)?;
+    assert!(rt; wide.meet(alloc, &other)? == both);
+    assert!(rt; other.meet(alloc, &wide)? == both);
     Ok(())
 }
