@@ -19,7 +19,7 @@ use Rattle.sql_meaning.specs.Refused.{first_of, unknown_table, too_many_tables, 
 use Rattle.sql_meaning.specs.Scope.{Header, header_of, no_table, number_of, scope_of, table_of, types_in}
 use Rattle.sql_meaning.proofs.Places.{length-types}
 use Rattle.sql_validator.specs.declared.validator.Outputs.{Outputs}
-use Rattle.sql_validator.specs.Tables.{AreNumbered}
+use Rattle.sql_names.specs.Tables.{AreNumbered}
 use Rattle.sql_validator.specs.Walks.{HasOutputs, IsResolved, late_cause, scope_cause}
 
 -- ---- columns are few

@@ -1,4 +1,3 @@
 pub mod Checked
 pub mod Refusal
-pub mod Tables
 pub mod Walks

@@ -35,7 +35,7 @@ fn items_have_aggregates(items: &Items) -> bool
 }
 
 /// Whether the SELECT has GROUP BY, HAVING or an aggregate among its items. Takes no memory.
-pub(crate) fn is_aggregate_query(select: &Select) -> bool
+pub fn is_aggregate_query(select: &Select) -> bool
     ensures { result ≡ spec.is_aggregate_query select.now }
 {
     !select.groups.is_empty() || select.having.is_some() || items_have_aggregates(&select.items)

@@ -1,5 +1,6 @@
 //! The causes of a refusal that come from the entries of FROM.
-ghost use Rattle.std.specs.Prelude.{◌≡◌, ◌<◌, ◌^◌, length, IfOk};
+ghost use Rattle.std.specs.Prelude.{◌≡◌, ◌==◌, ◌<◌, ◌^◌, nat_lt, find, length, IfOk};
+ghost use Rattle.std.specs.Option.{option_copied};
 ghost use Rattle.sql_meaning.specs.Bounds.{bound_of};
 ghost use Rattle.sql_meaning.specs.Names.{output_names};
 ghost use Rattle.sql_meaning.specs.Parts as spec_parts;
@@ -10,11 +11,10 @@ ghost use Rattle.sql_validator.specs.Walks as walks;
 use crate::aggregate_query::is_aggregate_query;
 use crate::groups::{misplaced, ungrouped};
 use crate::keys::bad_key;
-use crate::mentions::{ambiguous, mentions, unknown_column};
-use crate::outputs::output_places;
 use cal_schema::{Refusal, WrittenName};
 use cal_value::{Duplicate, NoMemory, SqlText};
 use sql_meaning::{Entry, Mention, SelectPart, parts_of};
+use sql_names::{mentions_of, output_places};
 use sql_tree::Select;
 use sql_types::{nearest_misfit, type_clash};
 use std::alloc::Global;
@@ -25,6 +25,20 @@ fn name_of(alloc: Global, mention: &Mention) -> Result<WrittenName, NoMemory>
     let qualifier = mention.name.qualifier.copy(alloc)?;
     let name = mention.name.name.copy(alloc)?;
     Ok(WrittenName { qualifier, name })
+}
+
+// The first name that no entry has.
+fn unknown_column(all: &[Mention]) -> Option<&Mention>
+    ensures { option_copied result ≡ find (λ m. m.homes == 0) all.now }
+{
+    all.iter().find(|mention| mention.homes == 0)
+}
+
+// The first name that two entries have.
+fn ambiguous(all: &[Mention]) -> Option<&Mention>
+    ensures { option_copied result ≡ find (λ m. nat_lt 1 m.homes) all.now }
+{
+    all.iter().find(|mention| mention.homes > 1)
 }
 
 fn name_cause(alloc: Global, all: &[Mention]) -> Result<Option<Refusal>, NoMemory>
@@ -167,7 +181,7 @@ pub(crate) fn scope_cause(
     requires bound { rows ≡ bound_of scope.now }
     ensures { IfOk result (λ cause. cause ≡ walks.scope_cause scope.now before select.now) }
 {
-    let all = mentions(alloc, select, scope)?;
+    let all = mentions_of(alloc, select, scope)?;
     if let Some(cause) = name_cause(alloc, all.as_slice())? {
         return Ok(Some(cause));
     }

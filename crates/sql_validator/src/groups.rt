@@ -7,9 +7,9 @@ ghost use Rattle.sql_meaning.specs.Parts.{listed, parts_of};
 ghost use Rattle.sql_meaning.specs.Refused.{lowest};
 ghost use Rattle.sql_meaning.specs.Scope.{column_at, types_in};
 
-use crate::outputs::star_places;
 use cal_value::{List, NoMemory};
 use sql_meaning::{Entry, Role, SelectPart, column_at};
+use sql_names::star_places;
 use sql_tree::{Items, Select, Tree};
 use std::alloc::Global;
 

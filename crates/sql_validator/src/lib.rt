@@ -6,15 +6,9 @@ mod causes;
 mod checked;
 mod groups;
 mod keys;
-mod mentions;
-mod names;
-mod outputs;
-mod plain;
-mod references;
 mod rows;
-mod tables;
 mod validator;
 
+pub use aggregate_query::is_aggregate_query;
 pub use checked::{Checked, CheckedSelect};
-pub use plain::{is_plain, only_entry};
 pub use validator::validate;

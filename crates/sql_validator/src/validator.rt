@@ -10,14 +10,13 @@ ghost use Rattle.sql_validator.specs.Walks as walks;
 
 use crate::causes::scope_cause;
 use crate::checked::{Checked, CheckedSelect};
-use crate::names::output_names;
-use crate::outputs::output_types;
-use crate::references::column_places;
 use crate::rows::bad_row;
-use crate::tables::{entries, table_number, table_numbers, written};
 use cal_schema::{AdapterKind, Refusal, Schema};
 use cal_value::{FROM_LIMIT, List, Row, SqlText, SqlType};
 use sql_meaning::Entry;
+use sql_names::{
+    column_places, entries, output_names, output_types, table_number, table_numbers, written_name,
+};
 use sql_tree::{Select, Statement, TableName};
 use sql_types::row_bound;
 use std::alloc::Global;
@@ -158,7 +157,7 @@ fn refresh_table(alloc: Global, table: &TableName, schema: &Schema) -> Result<u3
 fn unknown_lattice(alloc: Global, lattice: &TableName) -> Refusal
     ensures { result ≢ no_memory → Some result ≡ spec.unknown_lattice lattice.now }
 {
-    match written(alloc, lattice) {
+    match written_name(alloc, lattice) {
         Ok(name) => Refusal::UnknownLattice { name },
         Err(_) => Refusal::NoMemory,
     }

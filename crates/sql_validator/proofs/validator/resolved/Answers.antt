@@ -3,7 +3,7 @@ use Rattle.cal_value.specs.declared.limits.TheConstants.{FROM_LIMIT}
 use Rattle.sql_tree.specs.declared.select.FromEntry.{FromEntry}
 use Rattle.sql_meaning.specs.Refused.{unknown_table}
 use Rattle.sql_meaning.specs.Scope.{header_of, scope_of}
-use Rattle.sql_validator.specs.Tables.{AreNumbered, first_unknown}
+use Rattle.sql_names.specs.Tables.{AreNumbered, first_unknown}
 use Rattle.sql_validator.proofs.Resolving.{is_refused, is_resolved, types-small}
 use Rattle.sql_validator.proofs.validator.resolved.Goals as goal
 

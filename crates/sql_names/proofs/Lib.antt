@@ -1,0 +1,4 @@
+pub mod FromTables
+pub mod Mentioned
+pub mod Named
+pub mod Placed
