@@ -1,0 +1,6 @@
+use Rattle.std.proofs.Common.{◌≡◌, map, take}
+use Rattle.exec_ops.specs.Sort.{ascending}
+use Rattle.exec_ops.proofs.tests.left_keys.Given as goal
+
+abbrev pub invariant-loop-pair : goal.invariant-loop-pair
+invariant-loop-pair l = l.keys ≡ map ascending (map (λ p. p.left) (take l.pair-index l.pairs))
