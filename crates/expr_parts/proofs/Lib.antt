@@ -1,0 +1,4 @@
+pub mod ColumnLaws
+pub mod ConjunctLaws
+pub mod ExprSteps
+pub mod PartSteps
