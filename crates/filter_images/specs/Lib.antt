@@ -1,0 +1,14 @@
+pub mod FilterAggregateTranspose
+pub mod FilterAggregateTransposeLawful
+pub mod FilterIntoJoin
+pub mod FilterIntoJoinLawful
+pub mod FilterMerge
+pub mod FilterMergeLawful
+pub mod FilterProjectTranspose
+pub mod FilterProjectTransposeLawful
+pub mod Filtered
+pub mod FilteredLemmas
+pub mod ListLemmas
+pub mod Meanings
+pub mod PartLemmas
+pub mod RowLemmas

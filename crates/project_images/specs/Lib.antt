@@ -1,0 +1,12 @@
+pub mod Empties
+pub mod EmptyLaws
+pub mod Meanings
+pub mod ProjectMerge
+pub mod ProjectMergeLawful
+pub mod ProjectRemove
+pub mod ProjectRemoveLawful
+pub mod PruneEmpty
+pub mod PruneEmptyLawful
+pub mod ReduceExpressions
+pub mod ReduceExpressionsLawful
+pub mod ReducedMeaning

@@ -1,0 +1,4 @@
+mod filters;
+mod projects;
+mod run;
+mod words;
