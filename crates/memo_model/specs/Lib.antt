@@ -1,0 +1,5 @@
+pub mod Same
+pub mod Sets
+pub mod Sound
+pub mod Relations
+pub mod Steps

@@ -1,0 +1,2 @@
+mod memos;
+mod steps;
