@@ -31,7 +31,9 @@ use Rattle.cal_rel.specs.Tree.{Tree as RelTree, unary, project_to}
 use Rattle.cal_rel.proofs.Reorders.{map-map}
 use Rattle.sql_meaning.specs.Parts.{listed}
 use Rattle.typed_meaning.proofs.Nothing.{All-front, All-back, All-of_map}
-use Rattle.sql_algebra.specs.Algebra.{place_among, ExprCall, same_argument, same_call, Layout, column_node, column_in, takes_column, call_over, aggregate_at, inputs, aggregate_tree}
+use Rattle.sql_algebra.specs.declared.layout.ExprCall.{ExprCall}
+use Rattle.sql_algebra.specs.declared.layout.Layout.{Layout}
+use Rattle.sql_algebra.specs.Algebra.{place_among, same_argument, same_call, column_node, column_in, takes_column, call_over, aggregate_at, inputs, aggregate_tree}
 use Rattle.sql_algebra.proofs.Items.{column-meaning}
 use Rattle.sql_algebra.proofs.Lists.{mapped, parts-map, map-ext}
 use Rattle.sql_algebra.proofs.Places.{IsAmong, found, all-distinct}

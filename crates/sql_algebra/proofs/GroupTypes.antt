@@ -35,7 +35,8 @@ use Rattle.sql_to_rel.proofs.Rolls.{fold-Column, fold-Literal, fold-Negate, fold
 use Rattle.sql_to_rel.proofs.Types.{type_of-numbered}
 use Rattle.typed_meaning.proofs.Groups.{no-aggregate}
 use Rattle.typed_meaning.proofs.Nothing.{All-front, All-back}
-use Rattle.sql_algebra.specs.Algebra.{place_among, ExprCall, same_call, Placed, placed, placed_step}
+use Rattle.sql_algebra.specs.declared.layout.ExprCall.{ExprCall}
+use Rattle.sql_algebra.specs.Algebra.{place_among, same_call, Placed, placed, placed_step}
 use Rattle.sql_algebra.proofs.Groups.{layout_by, right-of_unless}
 use Rattle.sql_algebra.proofs.Output.{own-type}
 use Rattle.sql_algebra.proofs.Places.{IsAmong, among-distinct}

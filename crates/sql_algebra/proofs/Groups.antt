@@ -32,7 +32,9 @@ use Rattle.sql_to_rel.proofs.Rolls.{fold-Column, fold-Literal, fold-Negate, fold
 use Rattle.sql_to_rel.proofs.Values.{look_up-flat}
 use Rattle.typed_meaning.specs.Rows.{IsTypedRow}
 use Rattle.typed_meaning.proofs.Nothing.{All-front, All-back}
-use Rattle.sql_algebra.specs.Algebra.{place_among, ExprCall, same_call, Layout, Placed, call_at, group_at, placed, placed_step}
+use Rattle.sql_algebra.specs.declared.layout.ExprCall.{ExprCall}
+use Rattle.sql_algebra.specs.declared.layout.Layout.{Layout}
+use Rattle.sql_algebra.specs.Algebra.{place_among, same_call, Placed, call_at, group_at, placed, placed_step}
 use Rattle.sql_algebra.proofs.Calls.{same_call-Decides, value_over, values_over}
 use Rattle.sql_algebra.proofs.From.{full}
 use Rattle.sql_algebra.proofs.Lists.{map-ext, mapped, parts-map, parts-members, parts-ext}

@@ -31,7 +31,9 @@ use Rattle.cal_rel.proofs.Narrower.{StillSome, AllWithin}
 use Rattle.cal_rel.proofs.RowLemmas.{of_both-some}
 use Rattle.sql_meaning.specs.Parts.{listed}
 use Rattle.typed_meaning.proofs.Nothing.{All-front, All-back, All-of_map}
-use Rattle.sql_algebra.specs.Algebra.{place_among, ExprCall, Layout, column_node, column_in, takes_column, call_over, aggregate_at, inputs, aggregate_tree}
+use Rattle.sql_algebra.specs.declared.layout.ExprCall.{ExprCall}
+use Rattle.sql_algebra.specs.declared.layout.Layout.{Layout}
+use Rattle.sql_algebra.specs.Algebra.{place_among, column_node, column_in, takes_column, call_over, aggregate_at, inputs, aggregate_tree}
 use Rattle.sql_algebra.proofs.Calls.{column_in-Column, both-true}
 use Rattle.sql_algebra.proofs.GroupTypes.{argument_over, over_type}
 use Rattle.sql_algebra.proofs.Output.{column-type, types-same, project-type}

@@ -44,7 +44,9 @@ use Rattle.sql_meaning.proofs.Nothing.{both-empty, or-none}
 use Rattle.sql_to_rel.specs.Numbered.{numbered, flat}
 use Rattle.typed_meaning.specs.Rows.{IsTypedRow}
 use Rattle.typed_meaning.proofs.Nothing.{All-front, All-back, All-of_map, Nothing, nothing, none-outside}
-use Rattle.sql_algebra.specs.Algebra.{from_tree, kept, ExprCall, same_call, Layout, placed, group_at, layout_of, aggregate_tree, row_items, group_items, row_answer, group_answer, answer_tree, once_tree, algebra}
+use Rattle.sql_algebra.specs.declared.layout.ExprCall.{ExprCall}
+use Rattle.sql_algebra.specs.declared.layout.Layout.{Layout}
+use Rattle.sql_algebra.specs.Algebra.{from_tree, kept, same_call, placed, group_at, layout_of, aggregate_tree, row_items, group_items, row_answer, group_answer, answer_tree, once_tree, algebra}
 use Rattle.sql_algebra.specs.Formed.{begins_first, has_items, IsFormed}
 use Rattle.sql_algebra.proofs.Calls.{same_call-Decides, values_over, aggregate-rows}
 use Rattle.sql_algebra.proofs.From.{walks-from, walks-where}

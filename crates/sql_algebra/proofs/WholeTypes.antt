@@ -46,7 +46,8 @@ use Rattle.typed_meaning.specs.Known.{HasType, HasTruthType}
 use Rattle.typed_meaning.proofs.Mentioned.{is_lost}
 use Rattle.typed_meaning.proofs.Nothing.{All-front, All-back, All-of_map, each-false, Nothing, nothing, none-outside}
 use Rattle.typed_meaning.proofs.Types.{accepted-types}
-use Rattle.sql_algebra.specs.Algebra.{from_tree, kept, ExprCall, same_call, place_among, placed, group_at, layout_of, aggregate_tree, row_items, group_items, row_answer, group_answer, answer_tree, once_tree, algebra}
+use Rattle.sql_algebra.specs.declared.layout.ExprCall.{ExprCall}
+use Rattle.sql_algebra.specs.Algebra.{from_tree, kept, same_call, place_among, placed, group_at, layout_of, aggregate_tree, row_items, group_items, row_answer, group_answer, answer_tree, once_tree, algebra}
 use Rattle.sql_algebra.specs.Formed.{IsFormed}
 use Rattle.sql_algebra.proofs.Calls.{same_call-Decides, both-true}
 use Rattle.sql_algebra.proofs.FromTypes.{IsTruth, numbered-truth, narrower-truth, plain-trees, accepted-from}

@@ -30,6 +30,8 @@ use Rattle.sql_meaning.specs.Names.{places_from, star_places}
 use Rattle.sql_meaning.specs.Parts.{conditions, item_trees, listed, is_aggregate_query}
 use Rattle.sql_meaning.specs.Scope.{Header, number_of, header_of, scope_of, column_at}
 use Rattle.sql_to_rel.specs.Numbered.{numbered}
+use Rattle.sql_algebra.specs.declared.layout.ExprCall.{ExprCall}
+use Rattle.sql_algebra.specs.declared.layout.Layout.{Layout}
 
 -- ---- FROM
 
@@ -84,11 +86,6 @@ kept meaning (Some condition) tree = unary (filter_by (meaning condition)) tree
 abbrev pub place_among : {A : Type 0} → (A → A → Bool) → A → List A → ℕ
 place_among same x xs = position_or_len (λ y. same y x) xs
 
--- an aggregate of the values of an expression, or of the rows
-pub record ExprCall : Type 0 where
-  pub agg : Agg
-  pub argument : Option Expr
-
 abbrev pub same_argument : Option Expr → Option Expr → Bool
 same_argument None None = true
 same_argument (Some a) (Some b) = expr_eq a b
@@ -96,11 +93,6 @@ same_argument a b = false
 
 abbrev pub same_call : ExprCall → ExprCall → Bool
 same_call a b = agg_eq a.agg b.agg && same_argument a.argument b.argument
-
--- the columns of an Aggregate's row: group columns, then calls
-pub record Layout : Type 0 where
-  pub groups : List ℕ
-  pub calls : List ExprCall
 
 -- what a tree stands for over rows, the calls in it, and what it stands for over an Aggregate's rows
 pub record Placed : Type 0 where
@@ -169,12 +161,14 @@ aggregate_at place layout tree = unary (aggregate_by (map (λ column. place (Col
 abbrev pub inputs : Layout → List Expr
 inputs layout = distinct expr_eq (map Column layout.groups ++ flat_map (λ call. listed call.argument) layout.calls)
 
+-- over a Project of the group columns and the arguments
+abbrev pub over_project : Layout → RelTree → RelTree
+over_project layout tree = aggregate_at (λ e. place_among expr_eq e (inputs layout)) layout (unary (project_to (inputs layout)) tree)
+
 -- over a Project where an argument isn't a column
 abbrev pub aggregate_tree : Layout → RelTree → RelTree
 aggregate_tree layout tree =
-    if list_all takes_column layout.calls
-    then aggregate_at (λ e. unwrap_or (column_in e) 0) layout tree
-    else aggregate_at (λ e. place_among expr_eq e (inputs layout)) layout (unary (project_to (inputs layout)) tree)
+    if list_all takes_column layout.calls then aggregate_at (λ e. unwrap_or (column_in e) 0) layout tree else over_project layout tree
 
 -- ---- items
 

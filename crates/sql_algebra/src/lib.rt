@@ -2,3 +2,6 @@
 #![tactic(auto)]
 
 pub mod laws;
+mod layout;
+
+pub use layout::{ExprCall, Layout};
