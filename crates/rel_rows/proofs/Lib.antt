@@ -1,0 +1,4 @@
+pub mod Joins
+pub mod Passes
+pub mod SplitLemmas
+pub mod Walks

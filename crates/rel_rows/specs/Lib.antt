@@ -1,0 +1,4 @@
+pub mod Pass
+pub mod Ready
+pub mod Size
+pub mod Split
