@@ -1,4 +1,3 @@
-pub mod Accepted
 pub mod Answered
 pub mod OneReply
-pub mod Tables
+pub mod Spelled

@@ -1,4 +1,3 @@
-pub mod Narrow
-pub mod Outputs
+pub mod Planned
 pub mod Replies
 pub mod Statements

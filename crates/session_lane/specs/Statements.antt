@@ -1,9 +1,10 @@
 -- Why a text is no statement, and why a statement isn't answered.
-use Rattle.std.specs.Prelude.{ℕ, List, [], ◌∷◌, Option, Some, None, if◌then◌else◌, ⊤}
+use Rattle.std.specs.Prelude.{ℕ, List, [], ◌∷◌, Option, Some, None, ⊤}
 use Rattle.cal_schema.specs.declared.refusal.Refusal.{Refusal}
 use Rattle.cal_schema.specs.declared.refusal.Refusal.TheVariants as refused
 use Rattle.cal_schema.specs.declared.schema.Schema.{Schema}
-use Rattle.sql_meaning.specs.Refused.{first_of, is_plain}
+use Rattle.sql_meaning.specs.Refused.{first_of}
+use Rattle.sql_algebra.specs.Formed.{IsFormed}
 use Rattle.sql_parser.specs.Answers.{HasFault, IsFaultOf}
 use Rattle.sql_expressions.specs.declared.fault.ParseFault.TheVariants as parse
 use Rattle.sql_text.specs.Tokens.{StopsAt}
@@ -41,14 +42,9 @@ not_yet (ExplainPlan select) = Some refused.NotYet
 not_yet (ExplainMemo select) = Some refused.NotYet
 not_yet s = None
 
--- a SELECT over more than one entry of FROM, with an aggregate, DISTINCT, GROUP BY, HAVING or ORDER BY isn't answered yet
-abbrev pub not_plain : Statement → Option Refusal
-not_plain (SelectOf select) = if is_plain select then None else Some refused.NotYet
-not_plain s = None
-
 -- the first cause that holds
 abbrev pub refusal : Schema → Statement → Option Refusal
-refusal schema s = first_of (not_a_query s ∷ not_yet s ∷ refusal_in schema s ∷ not_plain s ∷ [])
+refusal schema s = first_of (not_a_query s ∷ not_yet s ∷ refusal_in schema s ∷ [])
 
 -- ---- what the parser says of tokens: a word of private contracts
 
@@ -64,3 +60,9 @@ IsParseRefusal tokens r = ⊥
 abbrev pub IsOfSelect : Checked → Type 0
 IsOfSelect (checked.Select made) = ⊤
 IsOfSelect made = ⊥
+
+-- ---- the form that the grammar gives a SELECT: a word of private contracts
+
+abbrev pub IsFormedStatement : Statement → Type 0
+IsFormedStatement (SelectOf select) = IsFormed select
+IsFormedStatement s = ⊤

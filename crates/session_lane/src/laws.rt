@@ -2,16 +2,18 @@
 ghost use Rattle.std.specs.Prelude.{ℕ, List as ListOf};
 ghost use Rattle.cal_schema.specs.declared.database.Db.{Db};
 ghost use Rattle.cal_schema.specs.declared.schema.Schema.{Schema};
+ghost use Rattle.rule_hep.specs.Meaning.{Meaning};
 ghost use Rattle.session_lane.specs.declared.reply.Reply.{Reply};
 ghost use Rattle.session_lane.specs.Replies.{AreSameReplies, IsReplyTo};
 
 use sql_parser::one_statement;
 use sql_text::each_text_reads_one_way;
 
-/// Two right replies to a text over a schema and its tables are the same up to the order of rows.
+/// Two right replies to a text over a schema and its tables, planned by the same rules, are the same up to the order of rows.
 pub fn one_reply_is_right()
-    ensures { (schema : Schema) (db : Db) (text : ListOf ℕ) (a b : Reply)
-        → IsReplyTo schema db text a → IsReplyTo schema db text b → AreSameReplies a b }
+    ensures { (rules : ListOf Meaning) (schema : Schema) (db : Db) (text : ListOf ℕ) (a b : Reply)
+        → IsReplyTo rules schema db text a → IsReplyTo rules schema db text b
+        → AreSameReplies a b }
 {
     each_text_reads_one_way();
     one_statement();

@@ -1,14 +1,12 @@
-//! The rows of a SELECT, and replies to statements.
+//! Answers to SELECTs, and replies to statements.
 #![tactic(auto)]
 
 mod answer;
-mod expressions;
 mod laws;
 mod reply;
-mod rows;
 mod statement;
 
-pub use answer::{Answer, answer_select};
+pub use answer::{Answer, HEP_LIMIT, Planning, answer_select};
 pub use laws::one_reply_is_right;
 pub use reply::{Cause, Reply};
 pub use statement::reply_to;

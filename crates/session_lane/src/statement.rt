@@ -1,10 +1,10 @@
 //! The reply to a statement's text.
-ghost use Rattle.std.specs.Prelude.{◌≡◌, ◌≢◌, IfOk, IfErr, OnOk, None, true};
+ghost use Rattle.std.specs.Prelude.{◌≡◌, ◌≢◌, IfOk, IfErr, OnOk, None, map};
 ghost use Rattle.std.specs.Str.{chars};
 ghost use Rattle.cal_schema.specs.Fits.{Fits};
 ghost use Rattle.cal_schema.specs.Valid.{IsValidSchema};
 ghost use Rattle.cal_schema.specs.declared.refusal.Refusal.TheVariants as refused;
-ghost use Rattle.sql_meaning.specs.Refused as meaning;
+ghost use Rattle.sql_algebra.specs.Formed.{IsFormed};
 ghost use Rattle.sql_parser.specs.Answers.{IsStatement, IsWithinLimits};
 ghost use Rattle.sql_parser.specs.Grammar.{Spells};
 ghost use Rattle.sql_tree.specs.declared.statement.Statement.TheVariants.{Select as SelectOf};
@@ -13,17 +13,18 @@ ghost use Rattle.sql_validator.specs.declared.checked.Checked.TheVariants as che
 ghost use Rattle.session_lane.specs.declared.reply.Cause.TheVariants as causes;
 ghost use Rattle.session_lane.specs.declared.reply.Reply.TheVariants as replies;
 ghost use Rattle.session_lane.specs.Replies.{Answers, IsReplyTo};
-ghost use Rattle.session_lane.specs.Statements.{IsNoStatement, IsParseRefusal, IsOfSelect};
+ghost use Rattle.session_lane.specs.Statements.{IsNoStatement, IsParseRefusal, IsOfSelect, IsFormedStatement};
 
 use crate::answer::answer_select;
 use crate::reply::{Cause, Reply};
 use cal_schema::{Refusal, Schema};
 use cal_snapshot::Snapshot;
 use cal_value::{List, NoMemory};
+use rule_hep::Rule;
 use sql_parser::{ParseFault, parse};
 use sql_text::{Token, TokenFault, tokens};
 use sql_tree::{Select, Statement};
-use sql_validator::{Checked, CheckedSelect, is_plain, validate};
+use sql_validator::{Checked, CheckedSelect, validate};
 use std::alloc::Global;
 
 fn parsed(alloc: Global, tokens: &List<Token>) -> Result<Statement, Refusal>
@@ -77,21 +78,22 @@ fn select_of(made: Checked) -> CheckedSelect
     }
 }
 
-// The rows of an accepted SELECT of a form that is answered.
-fn answered(
+// The rows of an accepted SELECT.
+fn reply_to_accepted(
     alloc: Global,
     made: CheckedSelect,
     schema: &Schema,
     snapshot: &Snapshot,
+    rules: &[Box<dyn Rule>],
 ) -> Result<Reply, NoMemory>
-    requires plain { meaning.is_plain made.select ≡ true }
+    requires formed { IsFormed made.select }
     requires checked { IsChecked schema.now 0 made.select made }
     requires valid { IsValidSchema schema.now }
     requires fits { Fits (record { tables = snapshot.now.tables }) schema.now }
-    ensures { IfOk result (Answers schema.now
+    ensures { IfOk result (Answers (map (λ b. meaning b) rules.now) schema.now
         (record { tables = snapshot.now.tables }) (SelectOf made.select)) }
 {
-    let answer = answer_select(alloc, &made, schema, snapshot)?;
+    let answer = answer_select(alloc, &made, schema, snapshot, rules)?;
     Ok(Reply::Rows {
         at: 0,
         names: made.names,
@@ -99,38 +101,21 @@ fn answered(
     })
 }
 
-fn reply_to_accepted(
-    alloc: Global,
-    made: CheckedSelect,
-    schema: &Schema,
-    snapshot: &Snapshot,
-) -> Result<Reply, NoMemory>
-    requires checked { IsChecked schema.now 0 made.select made }
-    requires valid { IsValidSchema schema.now }
-    requires fits { Fits (record { tables = snapshot.now.tables }) schema.now }
-    ensures { IfOk result (Answers schema.now
-        (record { tables = snapshot.now.tables }) (SelectOf made.select)) }
-{
-    if is_plain(&made.select) {
-        answered(alloc, made, schema, snapshot)
-    } else {
-        refused(Refusal::NotYet)
-    }
-}
-
 fn reply_to_select(
     alloc: Global,
     select: Select,
     schema: &Schema,
     snapshot: &Snapshot,
+    rules: &[Box<dyn Rule>],
 ) -> Result<Reply, NoMemory>
+    requires formed { IsFormed select }
     requires valid { IsValidSchema schema.now }
     requires fits { Fits (record { tables = snapshot.now.tables }) schema.now }
-    ensures { IfOk result (Answers schema.now
+    ensures { IfOk result (Answers (map (λ b. meaning b) rules.now) schema.now
         (record { tables = snapshot.now.tables }) (SelectOf select)) }
 {
     match validate(alloc, Statement::Select(select), schema) {
-        Ok(made) => reply_to_accepted(alloc, select_of(made), schema, snapshot),
+        Ok(made) => reply_to_accepted(alloc, select_of(made), schema, snapshot, rules),
         Err(cause) => refused(cause),
     }
 }
@@ -140,14 +125,16 @@ fn reply_to_statement(
     statement: Statement,
     schema: &Schema,
     snapshot: &Snapshot,
+    rules: &[Box<dyn Rule>],
 ) -> Result<Reply, NoMemory>
+    requires formed { IsFormedStatement statement }
     requires valid { IsValidSchema schema.now }
     requires fits { Fits (record { tables = snapshot.now.tables }) schema.now }
-    ensures { IfOk result (Answers schema.now
+    ensures { IfOk result (Answers (map (λ b. meaning b) rules.now) schema.now
         (record { tables = snapshot.now.tables }) statement) }
 {
     match statement {
-        Statement::Select(select) => reply_to_select(alloc, select, schema, snapshot),
+        Statement::Select(select) => reply_to_select(alloc, select, schema, snapshot, rules),
         Statement::ExplainPlan(_) => refused(Refusal::NotYet),
         Statement::ExplainMemo(_) => refused(Refusal::NotYet),
         Statement::Insert { .. } => refused(Refusal::NotAQuery),
@@ -159,20 +146,21 @@ fn reply_to_statement(
 }
 
 /// The reply to a text: rows where it is a SELECT that is answered, and otherwise the first cause why it isn't. The schema
-/// is valid, and the tables of the snapshot fit it.
+/// is valid, and the tables of the snapshot fit it. The SELECT is planned by the rules, which come in the order of the list.
 pub fn reply_to(
     alloc: Global,
     text: &str,
     schema: &Schema,
     snapshot: &Snapshot,
+    rules: &[Box<dyn Rule>],
 ) -> Result<Reply, NoMemory>
     requires valid { IsValidSchema schema.now }
     requires fits { Fits (record { tables = snapshot.now.tables }) schema.now }
-    ensures { IfOk result (IsReplyTo schema.now
+    ensures { IfOk result (IsReplyTo (map (λ b. meaning b) rules.now) schema.now
         (record { tables = snapshot.now.tables }) (chars text.now)) }
 {
     match statement_of(alloc, text) {
-        Ok(statement) => reply_to_statement(alloc, statement, schema, snapshot),
+        Ok(statement) => reply_to_statement(alloc, statement, schema, snapshot, rules),
         Err(cause) => refused(cause),
     }
 }

@@ -3,9 +3,9 @@ use Rattle.session_lane.proofs.laws.one_reply_is_right.Goals as goal
 
 pub returns : goal.returns
 returns c =
-    λ schema db text a b p q. one_reply (record {
+    λ rules schema db text a b p q. one_reply (record {
       one_list = c.each_text_reads_one_way.ensures.one_list;
       never_both = c.each_text_reads_one_way.ensures.never_both;
       one_place = c.each_text_reads_one_way.ensures.one_place;
       one_statement = c.one_statement.ensures;
-    }) schema db text a b p q
+    }) rules schema db text a b p q
