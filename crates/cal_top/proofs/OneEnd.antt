@@ -16,6 +16,7 @@ use Rattle.cal_start.specs.declared.files.FileRead.{FileRead}
 use Rattle.command_line.specs.Reading.{reading}
 use Rattle.command_line.specs.declared.reading.Asked.{Asked}
 use Rattle.session_lane.specs.declared.reply.Reply.{Reply}
+use Rattle.rule_hep.specs.Meaning.{Meaning}
 use Rattle.session_lane.specs.Replies.{AreSameReplies, IsReplyTo}
 use Rattle.cal_top.specs.Run.{NothingRead, HasRead, IsReplied, IsStopped, HasCause}
 use Rattle.cal_top.specs.RunEnd.{AreSameEnds, HaveSameReplies, RunEnd, IsRightEnd}
@@ -163,24 +164,24 @@ record HasStopped (old : StoreState) (words : List (List ℕ)) (fault : Option T
   no_db : db ≡ None
   no_reply : reply ≡ None
 
-record HasReplied (old : StoreState) (words : List (List ℕ)) (fault : Option TopFault) (files : List FileRead) (db : Option Db) (reply : Option Reply) : Type 0 where
+record HasReplied (rules : List Meaning) (old : StoreState) (words : List (List ℕ)) (fault : Option TopFault) (files : List FileRead) (db : Option Db) (reply : Option Reply) : Type 0 where
   asked : Asked
   words_have : reading words ≡ Some asked
   read : AreRead old (next_of asked.model) files
   fault_is : fault ≡ None
-  replied : IsReplied (next_of asked.model files) asked.sql db reply
+  replied : IsReplied rules (next_of asked.model files) asked.sql db reply
 
-abbrev End : StoreState → List (List ℕ) → Option TopFault → List FileRead → Option Db → Option Reply → Type 0
-End old words fault files db reply =
-    HasNoReading words fault files db reply ⊎ HasStopped old words fault files db reply ⊎ HasReplied old words fault files db reply
+abbrev End : List Meaning → StoreState → List (List ℕ) → Option TopFault → List FileRead → Option Db → Option Reply → Type 0
+End rules old words fault files db reply =
+    HasNoReading words fault files db reply ⊎ HasStopped old words fault files db reply ⊎ HasReplied rules old words fault files db reply
 
 no_start_memory : (a : StartFault) (fault : TopFault) → fault ≢ NoMemory → fault ≡ top_fault a → a ≢ start.NoMemory
 no_start_memory a fault other is e = other (is ∙ ap top_fault e)
 
-stopped_end : (old new : StoreState) (words : List (List ℕ)) (fault : TopFault) (files : List FileRead) (db : Option Db) (reply : Option Reply)
+stopped_end : (rules : List Meaning) (old new : StoreState) (words : List (List ℕ)) (fault : TopFault) (files : List FileRead) (db : Option Db) (reply : Option Reply)
     → (Rose old.faults new.faults → ⊥) → fault ≢ NoMemory
-    → HasRead old words files (λ asked. IsStopped old new (next_of asked.model files) fault db reply) → End old words (Some fault) files db reply
-stopped_end old new words fault files db reply calm other r = inr (inl (record {
+    → HasRead old words files (λ asked. IsStopped old new (next_of asked.model files) fault db reply) → End rules old words (Some fault) files db reply
+stopped_end rules old new words fault files db reply calm other r = inr (inl (record {
   asked = r.asked;
   words_have = r.words_have;
   read = r.read;
@@ -191,18 +192,18 @@ stopped_end old new words fault files db reply calm other r = inr (inl (record {
   no_reply = r.then.no_reply.1;
 }))
 
-end_of : (old new : StoreState) (words : List (List ℕ)) (fault : Option TopFault) (files : List FileRead) (db : Option Db) (reply : Option Reply)
-    → (Rose old.faults new.faults → ⊥) → fault ≢ Some NoMemory → HasCause old new words fault files db reply → End old words fault files db reply
-end_of old new words None files db reply calm other r =
+end_of : (rules : List Meaning) (old new : StoreState) (words : List (List ℕ)) (fault : Option TopFault) (files : List FileRead) (db : Option Db) (reply : Option Reply)
+    → (Rose old.faults new.faults → ⊥) → fault ≢ Some NoMemory → HasCause rules old new words fault files db reply → End rules old words fault files db reply
+end_of rules old new words None files db reply calm other r =
     inr (inr (record { asked = r.asked; words_have = r.words_have; read = r.read; fault_is = refl; replied = r.then }))
-end_of old new words (Some BadWords) files db reply calm other r = inl (record { fault_is = refl; no_reading = r.0; nothing = r.1 })
-end_of old new words (Some NotJson) files db reply calm other r = stopped_end old new words NotJson files db reply calm (λ e. other (ap Some e)) r
-end_of old new words (Some (BadModel path c)) files db reply calm other r = stopped_end old new words (BadModel path c) files db reply calm (λ e. other (ap Some e)) r
-end_of old new words (Some (Table t c)) files db reply calm other r = stopped_end old new words (Table t c) files db reply calm (λ e. other (ap Some e)) r
-end_of old new words (Some (TooBig limit)) files db reply calm other r = stopped_end old new words (TooBig limit) files db reply calm (λ e. other (ap Some e)) r
-end_of old new words (Some ReadFault) files db reply calm other r = stopped_end old new words ReadFault files db reply calm (λ e. other (ap Some e)) r
-end_of old new words (Some (SinkFault of)) files db reply calm other r = absurd r
-end_of old new words (Some NoMemory) files db reply calm other r = absurd (other refl)
+end_of rules old new words (Some BadWords) files db reply calm other r = inl (record { fault_is = refl; no_reading = r.0; nothing = r.1 })
+end_of rules old new words (Some NotJson) files db reply calm other r = stopped_end rules old new words NotJson files db reply calm (λ e. other (ap Some e)) r
+end_of rules old new words (Some (BadModel path c)) files db reply calm other r = stopped_end rules old new words (BadModel path c) files db reply calm (λ e. other (ap Some e)) r
+end_of rules old new words (Some (Table t c)) files db reply calm other r = stopped_end rules old new words (Table t c) files db reply calm (λ e. other (ap Some e)) r
+end_of rules old new words (Some (TooBig limit)) files db reply calm other r = stopped_end rules old new words (TooBig limit) files db reply calm (λ e. other (ap Some e)) r
+end_of rules old new words (Some ReadFault) files db reply calm other r = stopped_end rules old new words ReadFault files db reply calm (λ e. other (ap Some e)) r
+end_of rules old new words (Some (SinkFault of)) files db reply calm other r = absurd r
+end_of rules old new words (Some NoMemory) files db reply calm other r = absurd (other refl)
 
 none_asked : (a : Asked) → None ≡ Some a → ⊥
 none_asked a e = Prim.cc
@@ -228,45 +229,45 @@ some_replies r s a b p q same =
     (subst (λ (y : Option Reply). HaveSameReplies (Some a) y) (sym q) same)
 
 -- two right replies are the same
-abbrev pub OneReply : Type 0
-OneReply = (schema : Schema) (db : Db) (text : List ℕ) (a b : Reply) → IsReplyTo schema db text a → IsReplyTo schema db text b → AreSameReplies a b
+abbrev pub OneReply : List Meaning → Type 0
+OneReply rules = (schema : Schema) (db : Db) (text : List ℕ) (a b : Reply) → IsReplyTo rules schema db text a → IsReplyTo rules schema db text b → AreSameReplies a b
 
-same_replied : OneReply → (next : Next) (sql : List ℕ) (d e : Option Db) (r s : Option Reply) → IsReplied next sql d r → IsReplied next sql e s → (d ≡ e) × HaveSameReplies r s
-same_replied one next sql d e r s p q =
+same_replied : (rules : List Meaning) → OneReply rules → (next : Next) (sql : List ℕ) (d e : Option Db) (r s : Option Reply) → IsReplied rules next sql d r → IsReplied rules next sql e s → (d ≡ e) × HaveSameReplies r s
+same_replied rules one next sql d e r s p q =
     let whole = sym p.all_read ∙ q.all_read in
     let schema = same_schema p.schema q.schema p.tables q.tables whole in
     let tables = same_tables p.schema q.schema p.tables q.tables whole in
-    let moved : IsReplyTo p.schema p.tables sql q.answer =
-    subst (λ (x : Schema). IsReplyTo x p.tables sql q.answer) (sym schema) (subst (λ (x : Db). IsReplyTo q.schema x sql q.answer) (sym tables) q.replied) in
+    let moved : IsReplyTo rules p.schema p.tables sql q.answer =
+    subst (λ (x : Schema). IsReplyTo rules x p.tables sql q.answer) (sym schema) (subst (λ (x : Db). IsReplyTo rules q.schema x sql q.answer) (sym tables) q.replied) in
     (p.db_is ∙ ap Some tables ∙ sym q.db_is, some_replies r s p.answer q.answer p.reply_is q.reply_is (one p.schema p.tables sql p.answer q.answer p.replied moved))
 
 not_done : (store : StoreState) (next : Next) (fault : StartFault) (schema : Schema) (db : Db) → Follows store next fault → next ≡ done schema db → ⊥
 not_done store next fault schema db (inl p) is = stops_done fault schema db (sym p ∙ is)
 not_done store next fault schema db (inr p) is = wants_done _ _ _ schema db (sym p.wanted ∙ is)
 
-stopped_or_replied : (old : StoreState) (file : Files) (words : List (List ℕ)) (f : Option TopFault) (fs : List FileRead) (d : Option Db) (r : Option Reply)
+stopped_or_replied : (rules : List Meaning) (old : StoreState) (file : Files) (words : List (List ℕ)) (f : Option TopFault) (fs : List FileRead) (d : Option Db) (r : Option Reply)
     (g : Option TopFault) (gs : List FileRead) (e : Option Db) (s : Option Reply)
-    → old.files ≡ Some file → HasStopped old words f fs d r → HasReplied old words g gs e s → ⊥
-stopped_or_replied old file words f fs d r g gs e s told p q =
+    → old.files ≡ Some file → HasStopped old words f fs d r → HasReplied rules old words g gs e s → ⊥
+stopped_or_replied rules old file words f fs d r g gs e s told p q =
     let asked : q.asked ≡ p.asked = same_asked q.asked p.asked (sym q.words_have ∙ p.words_have) in
     let read : AreRead old (next_of p.asked.model) gs = subst (λ (a : Asked). AreRead old (next_of a.model) gs) asked q.read in
-    let reply : IsReplied (next_of p.asked.model gs) p.asked.sql e s = subst (λ (a : Asked). IsReplied (next_of a.model gs) a.sql e s) asked q.replied in
+    let reply : IsReplied rules (next_of p.asked.model gs) p.asked.sql e s = subst (λ (a : Asked). IsReplied rules (next_of a.model gs) a.sql e s) asked q.replied in
     let files : fs ≡ gs = same_files old file (next_of p.asked.model) told [] fs gs p.read read
     (last_follows old file (next_of p.asked.model fs) p.start told p.cause)
     (last_done old (next_of p.asked.model gs) reply.schema reply.tables reply.all_read) in
     not_done old (next_of p.asked.model gs) p.start reply.schema reply.tables
     (subst (λ (x : List FileRead). Follows old (next_of p.asked.model x) p.start) files p.cause) reply.all_read
 
-one_of_ends : OneReply → (old : StoreState) (file : Files) (words : List (List ℕ)) (f g : Option TopFault) (fs gs : List FileRead) (d e : Option Db) (r s : Option Reply)
-    → old.files ≡ Some file → End old words f fs d r → End old words g gs e s
+one_of_ends : (rules : List Meaning) → OneReply rules → (old : StoreState) (file : Files) (words : List (List ℕ)) (f g : Option TopFault) (fs gs : List FileRead) (d e : Option Db) (r s : Option Reply)
+    → old.files ≡ Some file → End rules old words f fs d r → End rules old words g gs e s
     → AreSameEnds (run_end f fs d r) (run_end g gs e s)
-one_of_ends one old file words f g fs gs d e r s told (inl p) (inl q) =
+one_of_ends rules one old file words f g fs gs d e r s told (inl p) (inl q) =
     same_end f g fs gs d e r s (p.fault_is ∙ sym q.fault_is) (p.nothing.0 ∙ sym q.nothing.0) (p.nothing.1.0 ∙ sym q.nothing.1.0) (no_replies r s p.nothing.1.1 q.nothing.1.1)
-one_of_ends one old file words f g fs gs d e r s told (inl p) (inr (inl q)) = absurd (none_asked q.asked (sym p.no_reading ∙ q.words_have))
-one_of_ends one old file words f g fs gs d e r s told (inl p) (inr (inr q)) = absurd (none_asked q.asked (sym p.no_reading ∙ q.words_have))
-one_of_ends one old file words f g fs gs d e r s told (inr (inl p)) (inl q) = absurd (none_asked p.asked (sym q.no_reading ∙ p.words_have))
-one_of_ends one old file words f g fs gs d e r s told (inr (inr p)) (inl q) = absurd (none_asked p.asked (sym q.no_reading ∙ p.words_have))
-one_of_ends one old file words f g fs gs d e r s told (inr (inl p)) (inr (inl q)) =
+one_of_ends rules one old file words f g fs gs d e r s told (inl p) (inr (inl q)) = absurd (none_asked q.asked (sym p.no_reading ∙ q.words_have))
+one_of_ends rules one old file words f g fs gs d e r s told (inl p) (inr (inr q)) = absurd (none_asked q.asked (sym p.no_reading ∙ q.words_have))
+one_of_ends rules one old file words f g fs gs d e r s told (inr (inl p)) (inl q) = absurd (none_asked p.asked (sym q.no_reading ∙ p.words_have))
+one_of_ends rules one old file words f g fs gs d e r s told (inr (inr p)) (inl q) = absurd (none_asked p.asked (sym q.no_reading ∙ p.words_have))
+one_of_ends rules one old file words f g fs gs d e r s told (inr (inl p)) (inr (inl q)) =
     let asked : q.asked ≡ p.asked = same_asked q.asked p.asked (sym q.words_have ∙ p.words_have) in
     let read : AreRead old (next_of p.asked.model) gs = subst (λ (a : Asked). AreRead old (next_of a.model) gs) asked q.read in
     let cause : Follows old (next_of p.asked.model gs) q.start = subst (λ (a : Asked). Follows old (next_of a.model gs) q.start) asked q.cause in
@@ -275,24 +276,24 @@ one_of_ends one old file words f g fs gs d e r s told (inr (inl p)) (inr (inl q)
     let fault : p.start ≡ q.start = same_fault old (next_of p.asked.model fs) p.start q.start p.cause
     (subst (λ (x : List FileRead). Follows old (next_of p.asked.model x) q.start) (sym files) cause) in
     same_end f g fs gs d e r s (p.fault_is ∙ ap (λ (x : StartFault). Some (top_fault x)) fault ∙ sym q.fault_is) files (p.no_db ∙ sym q.no_db) (no_replies r s p.no_reply q.no_reply)
-one_of_ends one old file words f g fs gs d e r s told (inr (inl p)) (inr (inr q)) =
-    absurd (stopped_or_replied old file words f fs d r g gs e s told p q)
-one_of_ends one old file words f g fs gs d e r s told (inr (inr p)) (inr (inl q)) =
-    absurd (stopped_or_replied old file words g gs e s f fs d r told q p)
-one_of_ends one old file words f g fs gs d e r s told (inr (inr p)) (inr (inr q)) =
+one_of_ends rules one old file words f g fs gs d e r s told (inr (inl p)) (inr (inr q)) =
+    absurd (stopped_or_replied rules old file words f fs d r g gs e s told p q)
+one_of_ends rules one old file words f g fs gs d e r s told (inr (inr p)) (inr (inl q)) =
+    absurd (stopped_or_replied rules old file words g gs e s f fs d r told q p)
+one_of_ends rules one old file words f g fs gs d e r s told (inr (inr p)) (inr (inr q)) =
     let asked : q.asked ≡ p.asked = same_asked q.asked p.asked (sym q.words_have ∙ p.words_have) in
     let read : AreRead old (next_of p.asked.model) gs = subst (λ (a : Asked). AreRead old (next_of a.model) gs) asked q.read in
-    let reply : IsReplied (next_of p.asked.model gs) p.asked.sql e s = subst (λ (a : Asked). IsReplied (next_of a.model gs) a.sql e s) asked q.replied in
+    let reply : IsReplied rules (next_of p.asked.model gs) p.asked.sql e s = subst (λ (a : Asked). IsReplied rules (next_of a.model gs) a.sql e s) asked q.replied in
     let files : fs ≡ gs = same_files old file (next_of p.asked.model) told [] fs gs p.read read
     (last_done old (next_of p.asked.model fs) p.replied.schema p.replied.tables p.replied.all_read)
     (last_done old (next_of p.asked.model gs) reply.schema reply.tables reply.all_read) in
-    let both : (d ≡ e) × HaveSameReplies r s = same_replied one (next_of p.asked.model fs) p.asked.sql d e r s p.replied
-    (subst (λ (x : List FileRead). IsReplied (next_of p.asked.model x) p.asked.sql e s) (sym files) reply) in
+    let both : (d ≡ e) × HaveSameReplies r s = same_replied rules one (next_of p.asked.model fs) p.asked.sql d e r s p.replied
+    (subst (λ (x : List FileRead). IsReplied rules (next_of p.asked.model x) p.asked.sql e s) (sym files) reply) in
     same_end f g fs gs d e r s (p.fault_is ∙ sym q.fault_is) files both.0 both.1
 
-pub one_end : OneReply → (old : StoreState) (file : Files) (words : List (List ℕ)) (a b : RunEnd) → old.files ≡ Some file
-    → IsRightEnd old words a → IsRightEnd old words b → AreSameEnds a b
-one_end one old file words a b told p q =
-    one_of_ends one old file words a.fault b.fault a.files b.files a.db b.db a.reply b.reply told
-    (end_of old p.new words a.fault a.files a.db a.reply p.calm p.memory p.cause)
-    (end_of old q.new words b.fault b.files b.db b.reply q.calm q.memory q.cause)
+pub one_end : (rules : List Meaning) → OneReply rules → (old : StoreState) (file : Files) (words : List (List ℕ)) (a b : RunEnd) → old.files ≡ Some file
+    → IsRightEnd rules old words a → IsRightEnd rules old words b → AreSameEnds a b
+one_end rules one old file words a b told p q =
+    one_of_ends rules one old file words a.fault b.fault a.files b.files a.db b.db a.reply b.reply told
+    (end_of rules old p.new words a.fault a.files a.db a.reply p.calm p.memory p.cause)
+    (end_of rules old q.new words b.fault b.files b.db b.reply q.calm q.memory q.cause)

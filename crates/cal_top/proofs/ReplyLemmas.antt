@@ -4,7 +4,8 @@ use Rattle.cal_schema.specs.declared.database.Db.{Db}
 use Rattle.cal_schema.specs.declared.schema.Schema.{Schema}
 use Rattle.cal_value.specs.declared.value.Value.{Value}
 use Rattle.session_lane.specs.declared.reply.Reply.{Reply}
+use Rattle.rule_hep.specs.Meaning.{Meaning}
 use Rattle.session_lane.specs.Replies.{IsReplyTo}
 
-pub same_tables : (schema : Schema) (text : List ℕ) (reply : Reply) (tables : List (List (List Value))) (db : Db) → tables ≡ db.tables → IsReplyTo schema (record { tables = tables }) text reply → IsReplyTo schema db text reply
-same_tables schema text reply tables db e is = subst (λ (t : List (List (List Value))). IsReplyTo schema (record { tables = t }) text reply) e is
+pub same_tables : (rules : List Meaning) (schema : Schema) (text : List ℕ) (reply : Reply) (tables : List (List (List Value))) (db : Db) → tables ≡ db.tables → IsReplyTo rules schema (record { tables = tables }) text reply → IsReplyTo rules schema db text reply
+same_tables rules schema text reply tables db e is = subst (λ (t : List (List (List Value))). IsReplyTo rules schema (record { tables = t }) text reply) e is

@@ -14,6 +14,7 @@ use Rattle.cal_start.specs.declared.files.FileRead.{FileRead}
 use Rattle.cal_start.specs.declared.run.Started.{Started}
 use Rattle.command_line.specs.Reading.{reading}
 use Rattle.command_line.specs.declared.reading.Asked.{Asked}
+use Rattle.rule_hep.specs.Meaning.{Meaning}
 use Rattle.session_lane.specs.declared.reply.Reply.{Reply}
 use Rattle.session_lane.specs.declared.reply.Reply.TheVariants.{Rows, Refused}
 use Rattle.cal_top.specs.Run.{NoReply, NothingRead, HasRead, IsReplied, IsStopped, HasCause, IsFine, IsValid, Ends}
@@ -24,23 +25,23 @@ use Rattle.cal_top.specs.declared.record.TopFault.TheVariants.{BadWords, NotJson
 
 -- ---- want of memory
 
-stopped_without_memory : (old new : StoreState) (words : List (List ℕ)) (fault : TopFault) (files : List FileRead) (db : Option Db) (reply : Option Reply)
-    → HasRead old words files (λ asked. IsStopped old new (next_of asked.model files) fault db reply) → HasCause old new words (Some NoMemory) files db reply
-stopped_without_memory old new words fault files db reply r =
+stopped_without_memory : (rules : List Meaning) (old new : StoreState) (words : List (List ℕ)) (fault : TopFault) (files : List FileRead) (db : Option Db) (reply : Option Reply)
+    → HasRead old words files (λ asked. IsStopped old new (next_of asked.model files) fault db reply) → HasCause rules old new words (Some NoMemory) files db reply
+stopped_without_memory rules old new words fault files db reply r =
     inr (record { asked = r.asked; words_have = r.words_have; read = r.read; then = inl r.then.no_reply })
 
-pub cause_without_memory : (old new : StoreState) (words : List (List ℕ)) (fault : Option TopFault) (files : List FileRead) (db : Option Db) (reply : Option Reply)
-    → HasCause old new words fault files db reply → HasCause old new words (Some NoMemory) files db reply
-cause_without_memory old new words None files db reply r =
+pub cause_without_memory : (rules : List Meaning) (old new : StoreState) (words : List (List ℕ)) (fault : Option TopFault) (files : List FileRead) (db : Option Db) (reply : Option Reply)
+    → HasCause rules old new words fault files db reply → HasCause rules old new words (Some NoMemory) files db reply
+cause_without_memory rules old new words None files db reply r =
     inr (record { asked = r.asked; words_have = r.words_have; read = r.read; then = inr r.then })
-cause_without_memory old new words (Some BadWords) files db reply r = inl r.1
-cause_without_memory old new words (Some NotJson) files db reply r = stopped_without_memory old new words _ files db reply r
-cause_without_memory old new words (Some (BadModel path cause)) files db reply r = stopped_without_memory old new words _ files db reply r
-cause_without_memory old new words (Some (Table t fault)) files db reply r = stopped_without_memory old new words _ files db reply r
-cause_without_memory old new words (Some (TooBig limit)) files db reply r = stopped_without_memory old new words _ files db reply r
-cause_without_memory old new words (Some ReadFault) files db reply r = stopped_without_memory old new words _ files db reply r
-cause_without_memory old new words (Some (SinkFault of)) files db reply r = absurd r
-cause_without_memory old new words (Some NoMemory) files db reply r = r
+cause_without_memory rules old new words (Some BadWords) files db reply r = inl r.1
+cause_without_memory rules old new words (Some NotJson) files db reply r = stopped_without_memory rules old new words _ files db reply r
+cause_without_memory rules old new words (Some (BadModel path cause)) files db reply r = stopped_without_memory rules old new words _ files db reply r
+cause_without_memory rules old new words (Some (Table t fault)) files db reply r = stopped_without_memory rules old new words _ files db reply r
+cause_without_memory rules old new words (Some (TooBig limit)) files db reply r = stopped_without_memory rules old new words _ files db reply r
+cause_without_memory rules old new words (Some ReadFault) files db reply r = stopped_without_memory rules old new words _ files db reply r
+cause_without_memory rules old new words (Some (SinkFault of)) files db reply r = absurd r
+cause_without_memory rules old new words (Some NoMemory) files db reply r = r
 
 -- ---- valid input
 
@@ -85,20 +86,20 @@ stopped_for_memory old new words fault files db reply valid calm r =
 abbrev pub IsCalm : Option TopFault → Type 0
 IsCalm fault = (fault ≡ None) ⊎ (fault ≡ Some NoMemory)
 
-pub calm_when_valid : (old new : StoreState) (words : List (List ℕ)) (fault : Option TopFault) (files : List FileRead) (db : Option Db) (reply : Option Reply)
-    → IsValid old words → (Rose old.faults new.faults → ⊥) → HasCause old new words fault files db reply → IsCalm fault
-calm_when_valid old new words None files db reply valid calm r = inl refl
-calm_when_valid old new words (Some BadWords) files db reply valid calm r = absurd (none_some (sym r.0 ∙ valid.words_have))
+pub calm_when_valid : (rules : List Meaning) (old new : StoreState) (words : List (List ℕ)) (fault : Option TopFault) (files : List FileRead) (db : Option Db) (reply : Option Reply)
+    → IsValid old words → (Rose old.faults new.faults → ⊥) → HasCause rules old new words fault files db reply → IsCalm fault
+calm_when_valid rules old new words None files db reply valid calm r = inl refl
+calm_when_valid rules old new words (Some BadWords) files db reply valid calm r = absurd (none_some (sym r.0 ∙ valid.words_have))
   where
     none_some : None ≡ Some valid.asked → ⊥
     none_some e = Prim.cc
-calm_when_valid old new words (Some NotJson) files db reply valid calm r = inr (ap Some (stopped_for_memory old new words _ files db reply valid calm r))
-calm_when_valid old new words (Some (BadModel path cause)) files db reply valid calm r = inr (ap Some (stopped_for_memory old new words _ files db reply valid calm r))
-calm_when_valid old new words (Some (Table t c)) files db reply valid calm r = inr (ap Some (stopped_for_memory old new words _ files db reply valid calm r))
-calm_when_valid old new words (Some (TooBig limit)) files db reply valid calm r = inr (ap Some (stopped_for_memory old new words _ files db reply valid calm r))
-calm_when_valid old new words (Some ReadFault) files db reply valid calm r = inr (ap Some (stopped_for_memory old new words _ files db reply valid calm r))
-calm_when_valid old new words (Some (SinkFault of)) files db reply valid calm r = absurd r
-calm_when_valid old new words (Some NoMemory) files db reply valid calm r = inr refl
+calm_when_valid rules old new words (Some NotJson) files db reply valid calm r = inr (ap Some (stopped_for_memory old new words _ files db reply valid calm r))
+calm_when_valid rules old new words (Some (BadModel path cause)) files db reply valid calm r = inr (ap Some (stopped_for_memory old new words _ files db reply valid calm r))
+calm_when_valid rules old new words (Some (Table t c)) files db reply valid calm r = inr (ap Some (stopped_for_memory old new words _ files db reply valid calm r))
+calm_when_valid rules old new words (Some (TooBig limit)) files db reply valid calm r = inr (ap Some (stopped_for_memory old new words _ files db reply valid calm r))
+calm_when_valid rules old new words (Some ReadFault) files db reply valid calm r = inr (ap Some (stopped_for_memory old new words _ files db reply valid calm r))
+calm_when_valid rules old new words (Some (SinkFault of)) files db reply valid calm r = absurd r
+calm_when_valid rules old new words (Some NoMemory) files db reply valid calm r = inr refl
 
 abbrev pub IsFineStatus : ℕ → Type 0
 IsFineStatus status = (status ≡ 0) ⊎ (status ≡ 1) ⊎ (status ≡ 7)
@@ -121,26 +122,26 @@ fine_end fault text old new r calm still (inr cut) =
 -- ---- the end of a start
 
 -- a start that ended with this fault gives the run its cause
-pub stopped_cause : (old new : StoreState) (words : List (List ℕ)) (asked : Asked) (fault : StartFault) (files : List FileRead) (db : Option Db) (reply : Option Reply)
+pub stopped_cause : (rules : List Meaning) (old new : StoreState) (words : List (List ℕ)) (asked : Asked) (fault : StartFault) (files : List FileRead) (db : Option Db) (reply : Option Reply)
     → reading words ≡ Some asked → AreRead old (next_of asked.model) files → EndCause old new (next_of asked.model files) (Err fault) → NoReply db reply
-    → HasCause old new words (Some (top_fault fault)) files db reply
-stopped_cause old new words asked start.NotJson files db reply has read cause none =
+    → HasCause rules old new words (Some (top_fault fault)) files db reply
+stopped_cause rules old new words asked start.NotJson files db reply has read cause none =
     record { asked = asked; words_have = has; read = read; then = record { start = start.NotJson; fault_is = refl; cause = cause; no_reply = none } }
-stopped_cause old new words asked (start.BadModel path c) files db reply has read cause none =
+stopped_cause rules old new words asked (start.BadModel path c) files db reply has read cause none =
     record { asked = asked; words_have = has; read = read; then = record { start = start.BadModel path c; fault_is = refl; cause = cause; no_reply = none } }
-stopped_cause old new words asked (start.Table t c) files db reply has read cause none =
+stopped_cause rules old new words asked (start.Table t c) files db reply has read cause none =
     record { asked = asked; words_have = has; read = read; then = record { start = start.Table t c; fault_is = refl; cause = cause; no_reply = none } }
-stopped_cause old new words asked (start.TooBig limit) files db reply has read cause none =
+stopped_cause rules old new words asked (start.TooBig limit) files db reply has read cause none =
     record { asked = asked; words_have = has; read = read; then = record { start = start.TooBig limit; fault_is = refl; cause = cause; no_reply = none } }
-stopped_cause old new words asked start.ReadFault files db reply has read cause none =
+stopped_cause rules old new words asked start.ReadFault files db reply has read cause none =
     record { asked = asked; words_have = has; read = read; then = record { start = start.ReadFault; fault_is = refl; cause = cause; no_reply = none } }
-stopped_cause old new words asked start.NoMemory files db reply has read cause none =
+stopped_cause rules old new words asked start.NoMemory files db reply has read cause none =
     inr (record { asked = asked; words_have = has; read = read; then = inl none })
 
-pub stopped_cause_of : (old new : StoreState) (words : List (List ℕ)) (asked : Asked) (outcome : Result Started StartFault) (fault : StartFault) (top : TopFault)
+pub stopped_cause_of : (rules : List Meaning) (old new : StoreState) (words : List (List ℕ)) (asked : Asked) (outcome : Result Started StartFault) (fault : StartFault) (top : TopFault)
     (files kept : List FileRead) (told : Option TopFault) (db : Option Db) (reply : Option Reply)
     → Some asked ≡ reading words → outcome ≡ Err fault → AreRead old (next_of asked.model) files → EndCause old new (next_of asked.model files) outcome
-    → top ≡ top_fault fault → told ≡ Some top → kept ≡ files → db ≡ None → reply ≡ None → HasCause old new words told kept db reply
-stopped_cause_of old new words asked outcome fault top files kept told db reply has is read cause top_is told_is kept_is db_is reply_is =
+    → top ≡ top_fault fault → told ≡ Some top → kept ≡ files → db ≡ None → reply ≡ None → HasCause rules old new words told kept db reply
+stopped_cause_of rules old new words asked outcome fault top files kept told db reply has is read cause top_is told_is kept_is db_is reply_is =
     rw (told_is, top_is, kept_is, db_is, reply_is)
-    (stopped_cause old new words asked fault files None None (sym has) read (rw is at cause) (refl, refl))
+    (stopped_cause rules old new words asked fault files None None (sym has) read (rw is at cause) (refl, refl))

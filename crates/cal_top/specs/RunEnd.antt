@@ -4,6 +4,7 @@ use Rattle.cal_outside.specs.Faults.{Rose}
 use Rattle.cal_outside.specs.Store.{StoreState}
 use Rattle.cal_schema.specs.declared.database.Db.{Db}
 use Rattle.cal_start.specs.declared.files.FileRead.{FileRead}
+use Rattle.rule_hep.specs.Meaning.{Meaning}
 use Rattle.session_lane.specs.declared.reply.Reply.{Reply}
 use Rattle.session_lane.specs.Replies.{AreSameReplies}
 use Rattle.cal_top.specs.Run.{HasCause}
@@ -17,11 +18,11 @@ pub record RunEnd : Type 0 where
   pub reply : Option Reply
 
 -- It has its cause, no fault was counted, and memory didn't end.
-pub record IsRightEnd (old : StoreState) (words : List (List ℕ)) (end : RunEnd) : Type 0 where
+pub record IsRightEnd (rules : List Meaning) (old : StoreState) (words : List (List ℕ)) (end : RunEnd) : Type 0 where
   pub new : StoreState
   pub calm : Rose old.faults new.faults → ⊥
   pub memory : end.fault ≢ Some NoMemory
-  pub cause : HasCause old new words end.fault end.files end.db end.reply
+  pub cause : HasCause rules old new words end.fault end.files end.db end.reply
 
 -- the same replies up to the order of rows, or none
 abbrev pub HaveSameReplies : Option Reply → Option Reply → Type 0

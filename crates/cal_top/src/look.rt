@@ -18,6 +18,7 @@ use cal_snapshot::Snapshot;
 use cal_start::{FileRead, StartRecord, Started, start};
 use cal_value::{List, NoMemory, Row};
 use command_line::read_words;
+use rule_hep::Rule;
 use session_lane::{Reply, reply_to};
 use std::alloc::Global;
 use std::sync::Arc;
@@ -80,25 +81,34 @@ fn reply_over_parts(
     sql: &Word,
     schema: &Schema,
     parts: List<Arc<List<Row>>>,
+    rules: &[Box<dyn Rule>],
 ) -> Result<Reply, NoMemory>
     requires valid { IsValidSchema schema.now }
     requires fits { Fits (record { tables = map arc_value parts }) schema.now }
-    ensures { IfOk result (IsReplyTo schema.now (record { tables = map arc_value parts }) sql.now) }
+    ensures { IfOk result (IsReplyTo (map (λ b. meaning b) rules.now) schema.now
+        (record { tables = map arc_value parts }) sql.now) }
 {
     let snapshot = Snapshot::start(alloc, parts)?;
-    reply_to(alloc, sql.as_str(), schema, &snapshot)
+    reply_to(alloc, sql.as_str(), schema, &snapshot, rules)
 }
 
 // The reply to the statement over the tables, which are answered as they were.
-fn reply_over(alloc: Global, sql: &Word, schema: &Schema, db: Db) -> Result<Replied, NoMemory>
+fn reply_over(
+    alloc: Global,
+    sql: &Word,
+    schema: &Schema,
+    db: Db,
+    rules: &[Box<dyn Rule>],
+) -> Result<Replied, NoMemory>
     requires valid { IsValidSchema schema.now }
     requires fits { Fits db schema.now }
     ensures db { IfOk result (λ made. made.db ≡ db) }
-    ensures reply { IfOk result (λ made. IsReplyTo schema.now db sql.now made.reply) }
+    ensures reply { IfOk result (λ made.
+        IsReplyTo (map (λ b. meaning b) rules.now) schema.now db sql.now made.reply) }
 {
     let parts = shared(alloc, db.tables)?;
     let again = shared_again(alloc, parts.as_slice())?;
-    let reply = reply_over_parts(alloc, sql, schema, again)?;
+    let reply = reply_over_parts(alloc, sql, schema, again, rules)?;
     let tables = all_unshared(alloc, parts)?;
     Ok(Replied {
         db: Db { tables },
@@ -107,11 +117,17 @@ fn reply_over(alloc: Global, sql: &Word, schema: &Schema, db: Db) -> Result<Repl
 }
 
 /// Reads the words, the model and the files of its tables, and answers the statement over them.
-pub fn look<S: Store>(alloc: Global, words: &[Word], store: &mut S) -> Outcome
+pub fn look<S: Store>(
+    alloc: Global,
+    words: &[Word],
+    store: &mut S,
+    rules: &[Box<dyn Rule>],
+) -> Outcome
     ensures later { IsLater (S.state store.old) (S.state store.new) }
     ensures each { KeepsEach (S.state store.old) (S.state store.new) [] result.files }
-    ensures cause { HasCause (S.state store.old) (S.state store.new)
-        words.now result.fault result.files result.db result.reply }
+    ensures cause { HasCause (map (λ b. meaning b) rules.now)
+        (S.state store.old) (S.state store.new) words.now
+        result.fault result.files result.db result.reply }
     ensures text { IfSome result.text (λ text. text.items ≡ text_of result.fault result.reply) }
 {
     let asked = match read_words(alloc, words) {
@@ -121,7 +137,7 @@ pub fn look<S: Store>(alloc: Global, words: &[Word], store: &mut S) -> Outcome
     };
     let StartRecord { files, outcome } = start(alloc, &asked.model, store);
     match outcome {
-        Ok(Started { schema, db }) => match reply_over(alloc, &asked.sql, &schema, db) {
+        Ok(Started { schema, db }) => match reply_over(alloc, &asked.sql, &schema, db, rules) {
             Ok(made) => with_reply(alloc, files, made),
             Err(_) => stopped(alloc, TopFault::NoMemory, files),
         },

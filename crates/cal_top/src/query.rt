@@ -1,5 +1,5 @@
 //! The top call.
-ghost use Rattle.std.specs.Prelude.{◌≡◌, ◌⊎◌, ◌≤◌, [], Option};
+ghost use Rattle.std.specs.Prelude.{◌≡◌, ◌⊎◌, ◌≤◌, [], Option, map};
 ghost use Rattle.cal_outside.specs.Faults.{Rose};
 ghost use Rattle.cal_outside.specs.Store.{IsLater};
 ghost use Rattle.cal_start.specs.Ends.{KeepsEach};
@@ -11,10 +11,13 @@ use crate::finish::finish;
 use crate::look::{Outcome, look};
 use crate::record::{QueryRecord, TopFault};
 use cal_outside::{Sink, Store, Word};
+use rule_hep::Rule;
 use std::alloc::Global;
 
 /// Answers one SELECT over the tables of the model that the words name, and writes the text of the answer. It never waits
 /// and always returns.
+///
+/// A SELECT's tree is rewritten by the rules, which come in the order of the list, before it runs.
 ///
 /// The words are `MODEL SQL [--budget N]`. Statuses: 0 header and rows, 1 the statement is refused, 2 the words have no
 /// reading, 3 a fault of the model or of a table's file, 5 a read failed, 6 the sink failed, 7 no memory.
@@ -23,6 +26,7 @@ pub fn run_query<S: Store, K: Sink>(
     words: &[Word],
     store: &mut S,
     out: &mut K,
+    rules: &[Box<dyn Rule>],
 ) -> QueryRecord
     ensures store_later { IsLater (S.state store.old) (S.state store.new) }
     ensures sink_later { (K.state out.old).faults ≤ (K.state out.new).faults }
@@ -30,8 +34,8 @@ pub fn run_query<S: Store, K: Sink>(
 
     // The fault that the run has before its text is written, its cause, and what was written.
     ensures run { (fault : Option Fault)
-        × HasCause (S.state store.old) (S.state store.new) words.now
-        fault result.files result.db result.reply
+        × HasCause (map (λ b. meaning b) rules.now)
+        (S.state store.old) (S.state store.new) words.now fault result.files result.db result.reply
         × Ends fault (text_of fault result.reply) (K.state out.old) (K.state out.new) result }
 
     // With valid input and no fault counted, it ends with rows, a refusal, or for want of memory.
@@ -46,7 +50,7 @@ pub fn run_query<S: Store, K: Sink>(
         db,
         reply,
         text,
-    } = look(alloc, words, store);
+    } = look(alloc, words, store, rules);
     match text {
         Some(text) => finish(out, fault, files, db, reply, text.as_slice()),
         None => finish(

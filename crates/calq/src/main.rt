@@ -4,6 +4,9 @@
 use cal_outside::{FileStore, StdSink, Word};
 use cal_top::run_query;
 use cal_value::{List, NoMemory};
+use rule_hep::Rule;
+use rules_filter::{FilterAggregateTranspose, FilterIntoJoin, FilterMerge, FilterProjectTranspose};
+use rules_project::{ProjectMerge, ProjectRemove, PruneEmpty, ReduceExpressions};
 use std::alloc::Global;
 use std::env;
 use std::io::ErrorKind;
@@ -30,13 +33,29 @@ fn words<R: Env + AllocGlobal>(rt: &R) -> Result<List<Word>, NoMemory> {
     Ok(words)
 }
 
-fn main(rt: HostRuntime) -> ExitCode {
+// The status of the run, by the rules in this order.
+fn run(rt: &HostRuntime) -> Result<u8, NoMemory> {
     let alloc = rt.alloc();
-    let Ok(words) = words(&rt) else {
-        return ExitCode::from(7);
-    };
-    let mut store = FileStore::new(&rt);
-    let mut out = StdSink::new(&rt);
-    let record = run_query(alloc, words.as_slice(), &mut store, &mut out);
-    ExitCode::from(record.status)
+    let rules: [Box<dyn Rule>; 8] = [
+        Box::new(alloc, ReduceExpressions::new())?,
+        Box::new(alloc, PruneEmpty::new())?,
+        Box::new(alloc, FilterMerge::new())?,
+        Box::new(alloc, FilterProjectTranspose::new())?,
+        Box::new(alloc, FilterIntoJoin::new())?,
+        Box::new(alloc, FilterAggregateTranspose::new())?,
+        Box::new(alloc, ProjectMerge::new())?,
+        Box::new(alloc, ProjectRemove::new())?,
+    ];
+    let words = words(rt)?;
+    let mut store = FileStore::new(rt);
+    let mut out = StdSink::new(rt);
+    let record = run_query(alloc, words.as_slice(), &mut store, &mut out, &rules);
+    Ok(record.status)
+}
+
+fn main(rt: HostRuntime) -> ExitCode {
+    match run(&rt) {
+        Ok(status) => ExitCode::from(status),
+        Err(_) => ExitCode::from(7),
+    }
 }

@@ -1,57 +1,87 @@
 //! Words without a reading, and reads and writes that fail.
-use crate::TopFault;
-use crate::tests::run::{Device, File, SOUND, ask, has_written, inline, model_of, run};
+use crate::QueryRecord;
+use crate::tests::run::{Device, File, SOUND, Told, has_written, run, run_whole};
+use cal_value::NoMemory;
+use std::alloc::Global;
 use std::test::Fail;
 
-#[test]
-fn words_of_a_command_line(rt: HostRuntime) -> Result<(), Fail> {
-    let alloc = rt.alloc();
-    let model = inline(alloc, "T", "\"A:int\"", "[1]")?;
+const ONE: &str =
+    r#"{"defaultSchema":"S","schemas":[{"name":"S","tables":[{"name":"T","factory":"cal.MemTableFactory","operand":{"columns":["A:int"],"rows":[[1]]}}]}]}"#;
+
+const TWO: &str =
+    r#"{"defaultSchema":"S","schemas":[{"name":"S","tables":[{"name":"T","factory":"cal.MemTableFactory","operand":{"columns":["A:int"],"rows":[[1],[2]]}}]}]}"#;
+
+const IN_FILES: &str =
+    r#"{"defaultSchema":"S","schemas":[{"name":"S","tables":[{"name":"C","factory":"org.apache.calcite.adapter.csv.CsvTableFactory","operand":{"file":"c"}},{"name":"D","factory":"org.apache.calcite.adapter.csv.CsvTableFactory","operand":{"file":"d"}}]}]}"#;
+
+const WITHOUT_READING: &[&[&str]] = &[
+    &[],
+    &["m"],
+    &["m", "SELECT A FROM T", "x"],
+    &["m", "SELECT A FROM T", "--budget", "0"],
+    &["m", "SELECT A FROM T", "--budget", "x"],
+    &["m", "SELECT A FROM T", "--budget", "5", "--budget", "6"],
+    &["m", "SELECT A FROM T", "--budget"],
+    &["m", "SELECT A FROM T", "--help"],
+    &["m", "-x"],
+];
+
+const WITH_READING: &[&[&str]] = &[
+    &["m", "SELECT A FROM T"],
+    &["--", "m", "SELECT A FROM T"],
+    &["--budget", "20000", "m", "SELECT A FROM T"],
+];
+
+// A run of these words over one model.
+fn run_words(
+    alloc: Global,
+    model: &str,
+    words: &[&str],
+    device: Device<'_>,
+) -> Result<Told, NoMemory> {
     let file = File {
         name: "m",
         bytes: model.as_bytes(),
     };
-    let cases: [(&[&str], u8); 12] = [
-        (&[], 2),
-        (&["m"], 2),
-        (&["m", "SELECT A FROM T", "x"], 2),
-        (&["m", "SELECT A FROM T", "--budget", "0"], 2),
-        (&["m", "SELECT A FROM T", "--budget", "x"], 2),
-        (
-            &["m", "SELECT A FROM T", "--budget", "5", "--budget", "6"],
-            2,
-        ),
-        (&["m", "SELECT A FROM T", "--budget"], 2),
-        (&["m", "SELECT A FROM T", "--help"], 2),
-        (&["m", "-x"], 2),
-        (&["m", "SELECT A FROM T"], 0),
-        (&["--", "m", "SELECT A FROM T"], 0),
-        (&["--budget", "20000", "m", "SELECT A FROM T"], 0),
-    ];
-    for (words, status) in cases {
-        let ran = run(alloc, words, &[file], SOUND)?;
-        let text = if status == 2 {
-            "usage: calq MODEL SQL [--budget N]\n"
-        } else {
-            "A\n1\n"
-        };
-        assert!(rt; has_written(&ran, status, text));
-        assert_eq!(rt; ran.record.files.is_empty(), status == 2);
+    run(alloc, words, &[file], device)
+}
+
+fn tells_usage(alloc: Global, words: &[&str]) -> Result<bool, NoMemory> {
+    let told = run_words(alloc, ONE, words, SOUND)?;
+    let is_told = has_written(&told, 2, "usage: calq MODEL SQL [--budget N]\n");
+    Ok(is_told && told.files == 0)
+}
+
+fn tells_rows(alloc: Global, words: &[&str]) -> Result<bool, NoMemory> {
+    let told = run_words(alloc, ONE, words, SOUND)?;
+    Ok(has_written(&told, 0, "A\n1\n") && told.files > 0)
+}
+
+#[test]
+fn words_of_a_command_line(rt: HostRuntime) -> Result<(), Fail> {
+    let alloc = rt.alloc();
+    for words in WITHOUT_READING {
+        let is_told = tells_usage(alloc, *words)?;
+        assert!(rt; is_told, "{}", words.len());
+    }
+    for words in WITH_READING {
+        let is_told = tells_rows(alloc, *words)?;
+        assert!(rt; is_told, "{}", words.len());
     }
     Ok(())
 }
 
-#[test]
-fn each_read_fails_once(rt: HostRuntime) -> Result<(), Fail> {
-    let alloc = rt.alloc();
-    let model = model_of(
-        alloc,
-        "{\"name\":\"C\",\"factory\":\"org.apache.calcite.adapter.csv.CsvTableFactory\",\"operand\":{\"file\":\"c\"}},{\"name\":\"D\",\"factory\":\"org.apache.calcite.adapter.csv.CsvTableFactory\",\"operand\":{\"file\":\"d\"}}",
-    )?;
+// A run over the model `m` and the first so many of the files `c` and `d`.
+fn run_files(
+    alloc: Global,
+    model: &str,
+    count: usize,
+    device: Device<'_>,
+) -> Result<Told, NoMemory> {
     let files = [
         File {
             name: "m",
-            bytes: model.as_bytes(),
+            bytes: IN_FILES.as_bytes(),
         },
         File {
             name: "c",
@@ -62,87 +92,126 @@ fn each_read_fails_once(rt: HostRuntime) -> Result<(), Fail> {
             bytes: b"B:int\n2\n",
         },
     ];
-    for (number, status, text, read) in [
-        (1u64, 5, "read fault\n", 0),
-        (2, 5, "read fault\n", 0),
-        (3, 5, "read fault\n", 1),
-        (4, 5, "read fault\n", 1),
-        (5, 5, "read fault\n", 2),
-        (6, 5, "read fault\n", 2),
-        (7, 0, "B\n2\n", 3),
-    ] {
-        let device = Device {
-            failing_reads: &[number],
-            failing_writes: &[],
-            most: 7,
-        };
-        let ran = run(alloc, &["m", "SELECT B FROM D"], files.as_slice(), device)?;
-        assert!(rt; has_written(&ran, status, text), "{number}");
-        assert_eq!(rt; ran.record.files.len(), read);
+    run(
+        alloc,
+        &[model, "SELECT B FROM D"],
+        &files[..1 + count.min(2)],
+        device,
+    )
+}
+
+// The read that fails, the status, the text, and how many files were read.
+const READS: &[(u64, u8, &str, usize)] = &[
+    (1, 5, "read fault\n", 0),
+    (2, 5, "read fault\n", 0),
+    (3, 5, "read fault\n", 1),
+    (4, 5, "read fault\n", 1),
+    (5, 5, "read fault\n", 2),
+    (6, 5, "read fault\n", 2),
+    (7, 0, "B\n2\n", 3),
+];
+
+fn ends_at_read(
+    alloc: Global,
+    number: u64,
+    status: u8,
+    text: &str,
+    read: usize,
+) -> Result<bool, NoMemory> {
+    let device = Device {
+        failing_reads: &[number],
+        failing_writes: &[],
+        most: 7,
+    };
+    let told = run_files(alloc, "m", 2, device)?;
+    Ok(has_written(&told, status, text) && told.files == read)
+}
+
+#[test]
+fn each_read_fails_once(rt: HostRuntime) -> Result<(), Fail> {
+    let alloc = rt.alloc();
+    for (number, status, text, read) in READS {
+        let is_right = ends_at_read(alloc, *number, *status, *text, *read)?;
+        assert!(rt; is_right, "{number}");
     }
-    let missing = run(alloc, &["n", "SELECT B FROM D"], files.as_slice(), SOUND)?;
-    assert!(rt; has_written(&missing, 5, "read fault\n"));
-    let one = run(alloc, &["m", "SELECT B FROM D"], &files[..2], SOUND)?;
-    assert!(rt; has_written(&one, 5, "read fault\n"));
     Ok(())
+}
+
+#[test]
+fn files_that_are_not_there(rt: HostRuntime) -> Result<(), Fail> {
+    let alloc = rt.alloc();
+    let no_model = run_files(alloc, "n", 2, SOUND)?;
+    assert!(rt; has_written(&no_model, 5, "read fault\n"));
+    let no_table = run_files(alloc, "m", 1, SOUND)?;
+    assert!(rt; has_written(&no_table, 5, "read fault\n"));
+    Ok(())
+}
+
+// The statement, how many bytes a write takes, the write that fails, the status, what was being told, and the text.
+const WRITES: &[(&str, u64, u64, u8, u8, &str)] = &[
+    ("SELECT A FROM T", 100, 1, 6, 0, ""),
+    ("SELECT A FROM T", 100, 2, 0, 0, "A\n1\n2\n"),
+    ("SELECT A FROM T", 1, 4, 6, 0, "A\n1"),
+    ("SELECT A FROM T", 1, 7, 0, 0, "A\n1\n2\n"),
+    ("SELECT A FROM T", 4, 2, 6, 0, "A\n1\n"),
+    ("SELECT B FROM T", 8, 2, 6, 1, "refused "),
+    (
+        "SELECT B FROM T",
+        8,
+        5,
+        1,
+        1,
+        "refused UnknownColumn name B\n",
+    ),
+];
+
+fn run_write(alloc: Global, sql: &str, most: u64, number: u64) -> Result<Told, NoMemory> {
+    let device = Device {
+        failing_reads: &[],
+        failing_writes: &[number],
+        most,
+    };
+    run_words(alloc, TWO, &["m", sql], device)
 }
 
 #[test]
 fn each_write_fails_once(rt: HostRuntime) -> Result<(), Fail> {
     let alloc = rt.alloc();
-    let model = inline(alloc, "T", "\"A:int\"", "[1],[2]")?;
-    let file = File {
-        name: "m",
-        bytes: model.as_bytes(),
-    };
-    for (sql, most, number, status, of, text) in [
-        ("SELECT A FROM T", 100u64, 1u64, 6, 0, ""),
-        ("SELECT A FROM T", 100, 2, 0, 0, "A\n1\n2\n"),
-        ("SELECT A FROM T", 1, 4, 6, 0, "A\n1"),
-        ("SELECT A FROM T", 1, 7, 0, 0, "A\n1\n2\n"),
-        ("SELECT A FROM T", 4, 2, 6, 0, "A\n1\n"),
-        ("SELECT B FROM T", 8, 2, 6, 1, "refused "),
-        (
-            "SELECT B FROM T",
-            8,
-            5,
-            1,
-            1,
-            "refused UnknownColumn name B\n",
-        ),
-    ] {
-        let device = Device {
-            failing_reads: &[],
-            failing_writes: &[number],
-            most,
-        };
-        let ran = run(alloc, &["m", sql], &[file], device)?;
-        assert!(rt; has_written(&ran, status, text), "{sql} {most} {number}");
-        if status == 6 {
-            assert!(rt;
-                matches!(ran.record.fault, Some(TopFault::SinkFault { of: told }) if told == of)
-            );
-        }
+    for (sql, most, number, status, of, text) in WRITES {
+        let told = run_write(alloc, *sql, *most, *number)?;
+        let is_told = *status != 6 || told.sink_fault == Some(*of);
+        let is_right = has_written(&told, *status, *text) && is_told;
+        assert!(rt; is_right, "{sql} {most} {number}");
     }
     Ok(())
 }
 
+// Whether the one file of the record is the model.
+fn keeps_model(record: &QueryRecord, model: &str) -> bool {
+    match record.files.as_slice() {
+        [file] => file.name.as_str() == "m" && file.bytes.as_slice() == model.as_bytes(),
+        _ => false,
+    }
+}
+
+// How many rows the first table has.
+fn row_count(record: &QueryRecord) -> Option<usize> {
+    match &record.db {
+        Some(db) => db.tables.get(0).map(|rows| rows.len()),
+        None => None,
+    }
+}
+
 #[test]
-fn the_record_keeps_files_tables_and_reply(rt: HostRuntime) -> Result<(), Fail> {
-    let alloc = rt.alloc();
-    let model = inline(alloc, "T", "\"A:int\"", "[1],[2]")?;
-    let ran = ask(alloc, model.as_str(), "SELECT A FROM T WHERE A > 1")?;
-    let files = ran.record.files.as_slice();
-    assert_eq!(rt; files.len(), 1);
-    assert_eq!(rt; files[0].name.as_str(), "m");
-    assert_eq!(rt; files[0].bytes.as_slice(), model.as_bytes());
-    let rows = match &ran.record.db {
-        Some(db) => match db.tables.get(0) {
-            Some(rows) => rows.len(),
-            None => 0,
-        },
-        None => 0,
+fn the_record_keeps_files_and_tables(rt: HostRuntime) -> Result<(), Fail> {
+    let file = File {
+        name: "m",
+        bytes: TWO.as_bytes(),
     };
-    assert_eq!(rt; rows, 2);
+    let words = ["m", "SELECT A FROM T WHERE A > 1"];
+    let ran = run_whole(rt.alloc(), words.as_slice(), &[file], SOUND)?;
+    let is_kept = keeps_model(&ran.record, TWO) && row_count(&ran.record) == Some(2);
+    drop(ran);
+    assert!(rt; is_kept);
     Ok(())
 }

@@ -1,15 +1,29 @@
 //! Runs over files and a sink in memory.
-use crate::{QueryRecord, run_query};
+use crate::{QueryRecord, TopFault, run_query};
 use cal_outside::{MemFile, MemSink, MemStore, Word};
 use cal_value::{List, NoMemory};
+use rule_hep::Rule;
 use std::alloc::Global;
-use std::test::Fail;
 
 // What a run leaves.
 #[derive(Drop)]
 pub(crate) struct Ran {
     pub(crate) record: QueryRecord,
-    pub(crate) sink: MemSink,
+    sink: MemSink,
+}
+
+// What most tests ask of it: the status, the text, how many files were read, whether there are tables and a reply, and what was
+// being told where the sink failed. A run is large: at the end of a function its drop would be written out in the code of that
+// function, which is dear to prove, so it is dropped by `drop`, which is proved once.
+#[derive(Drop)]
+pub(crate) struct Told {
+    pub(crate) status: u8,
+    text: Vec<u8>,
+    pub(crate) files: usize,
+    pub(crate) has_tables: bool,
+    pub(crate) has_reply: bool,
+    pub(crate) is_sound: bool,
+    pub(crate) sink_fault: Option<u8>,
 }
 
 // A file by name.
@@ -71,7 +85,7 @@ pub(crate) fn store_of(
     Ok(MemStore::new(files, failing))
 }
 
-pub(crate) fn run(
+pub(crate) fn run_whole(
     alloc: Global,
     words: &[&str],
     files: &[File<'_>],
@@ -81,28 +95,75 @@ pub(crate) fn run(
     let failing = numbers(alloc, device.failing_writes)?;
     let mut sink = MemSink::new(alloc, device.most.max(1), failing);
     let words = words_of(alloc, words)?;
-    let record = run_query(alloc, words.as_slice(), &mut store, &mut sink);
+    let rules: Vec<Box<dyn Rule>> = Vec::new(alloc);
+    let record = run_query(alloc, words.as_slice(), &mut store, &mut sink, &rules);
     Ok(Ran { record, sink })
 }
 
-// A model of the schema S, which is the default one, with these tables.
-pub(crate) fn model_of(alloc: Global, tables: &str) -> Result<String, Fail> {
-    let text = format!(in alloc;
-        "{{\"defaultSchema\":\"S\",\"schemas\":[{{\"name\":\"S\",\"tables\":[{tables}]}}]}}"
-    )?;
+fn sink_fault(fault: &Option<TopFault>) -> Option<u8> {
+    match fault {
+        Some(TopFault::SinkFault { of }) => Some(*of),
+        _ => None,
+    }
+}
+
+fn told_of(alloc: Global, ran: &Ran) -> Result<Told, NoMemory> {
+    let mut text = Vec::new(alloc);
+    text.extend_from_slice(ran.sink.bytes().as_slice())?;
+    Ok(Told {
+        status: ran.record.status,
+        text,
+        files: ran.record.files.len(),
+        has_tables: ran.record.db.is_some(),
+        has_reply: ran.record.reply.is_some(),
+        is_sound: ran.record.fault.is_none(),
+        sink_fault: sink_fault(&ran.record.fault),
+    })
+}
+
+fn summary(alloc: Global, ran: Ran) -> Result<Told, NoMemory> {
+    let told = told_of(alloc, &ran);
+    drop(ran);
+    told
+}
+
+pub(crate) fn run(
+    alloc: Global,
+    words: &[&str],
+    files: &[File<'_>],
+    device: Device<'_>,
+) -> Result<Told, NoMemory> {
+    match run_whole(alloc, words, files, device) {
+        Ok(ran) => summary(alloc, ran),
+        Err(fault) => Err(fault),
+    }
+}
+
+// The parts, one behind the other.
+pub(crate) fn joined(alloc: Global, parts: &[&str]) -> Result<String, NoMemory> {
+    let mut text = String::new(alloc);
+    for part in parts {
+        text.push_str(*part)?;
+    }
     Ok(text)
 }
 
-// A model of one inline table.
-pub(crate) fn inline(alloc: Global, name: &str, columns: &str, rows: &str) -> Result<String, Fail> {
-    let table = format!(in alloc;
-        "{{\"name\":\"{name}\",\"factory\":\"cal.MemTableFactory\",\"operand\":{{\"columns\":[{columns}],\"rows\":[{rows}]}}}}"
-    )?;
-    model_of(alloc, table.as_str())
+// A model of the schema S, which is the default one, with these tables.
+pub(crate) fn model_of(alloc: Global, tables: &[&str]) -> Result<String, NoMemory> {
+    let mut text = String::new(alloc);
+    text.push_str(r#"{"defaultSchema":"S","schemas":[{"name":"S","tables":["#)?;
+    let mut is_first = true;
+    for table in tables {
+        text.push_str(if is_first { "" } else { "," })?;
+        text.push_str(*table)?;
+        is_first = false;
+    }
+    text.push_str("]}]}")?;
+    Ok(text)
 }
 
 // A run of one statement over one model.
-pub(crate) fn ask(alloc: Global, model: &str, sql: &str) -> Result<Ran, NoMemory> {
+pub(crate) fn ask(alloc: Global, model: &str, sql: &str) -> Result<Told, NoMemory> {
     let file = File {
         name: "m",
         bytes: model.as_bytes(),
@@ -111,16 +172,8 @@ pub(crate) fn ask(alloc: Global, model: &str, sql: &str) -> Result<Ran, NoMemory
 }
 
 // Whether a run wrote exactly this text and ended with this status.
-pub(crate) fn has_written(ran: &Ran, status: u8, text: &str) -> bool {
-    ran.record.status == status && ran.sink.bytes().as_slice() == text.as_bytes()
-}
-
-// A table that is read from a file, with more of its operand.
-pub(crate) fn in_file(alloc: Global, name: &str, more: &str) -> Result<String, Fail> {
-    let text = format!(in alloc;
-        "{{\"name\":\"{name}\",\"factory\":\"org.apache.calcite.adapter.csv.CsvTableFactory\",\"operand\":{{\"file\":\"{name}\"{more}}}}}"
-    )?;
-    Ok(text)
+pub(crate) fn has_written(told: &Told, status: u8, text: &str) -> bool {
+    told.status == status && told.text.as_slice() == text.as_bytes()
 }
 
 // A run of one statement over a model and the files C and D.
@@ -130,7 +183,7 @@ pub(crate) fn ask_files(
     first: &[u8],
     second: &[u8],
     sql: &str,
-) -> Result<Ran, NoMemory> {
+) -> Result<Told, NoMemory> {
     let files = [
         File {
             name: "m",
