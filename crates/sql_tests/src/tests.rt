@@ -1,0 +1,6 @@
+mod accepted;
+mod described;
+mod refusals;
+mod run;
+mod statements;
+mod trees;
