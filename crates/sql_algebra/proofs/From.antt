@@ -1,18 +1,15 @@
 -- The loops over FROM are the joins from left to right, and WHERE is a Filter over them.
-use Rattle.std.proofs.Common.{◌≡◌, ℕ, Bool, true, false, cond, ◌&&◌, List, [], ◌∷◌, ◌++◌, map, filter, length, replicate, All, Option, Some, None, option_map, unwrap_or, slice_get, refl, sym, ◌∙◌, ap, subst}
+use Rattle.std.proofs.Common.{◌≡◌, ℕ, true, cond, ◌&&◌, List, [], ◌∷◌, ◌++◌, map, filter, length, replicate, All, Option, Some, None, option_map, unwrap_or, slice_get, refl, sym, ◌∙◌, ap, subst}
 use mathlib.Core.Path.{ap₂, fun_ext}
 use Rattle.std.specs.List.{flat_map, list_all}
 use Rattle.std.specs.Option.{option_and_then}
 use Rattle.std.proofs.lemmas.Grind.{flat_map-append}
 use Rattle.std.proofs.lemmas.List.{append_assoc, append-nil, map-id, length-map}
 use Rattle.std.proofs.lemmas.List.Elements.{All-filter, All-weaker}
-use Rattle.cal_value.specs.declared.operator.Op.TheVariants.{And}
-use Rattle.cal_value.specs.declared.value.Value.{Value}
-use Rattle.cal_value.specs.declared.value.Value.TheVariants.{Null, Bool as BoolValue, Int, Text}
-use Rattle.cal_value.specs.Logic.{and3, truth_of, value_of, is_true}
+use Rattle.cal_value.specs.declared.value.Value.TheVariants.{Null}
+use Rattle.cal_value.specs.Logic.{is_true}
 use Rattle.cal_expr.specs.declared.expr.Expr.{Expr}
-use Rattle.cal_expr.specs.declared.expr.Expr.TheVariants.{Binary}
-use Rattle.cal_expr.specs.Meaning.{meaning_of, meaning_step}
+use Rattle.cal_expr.specs.Meaning.{meaning_of}
 use Rattle.cal_schema.specs.declared.database.Db.{Db}
 use Rattle.cal_schema.specs.declared.schema.Schema.{Schema}
 use Rattle.cal_schema.specs.declared.table.TableDef.{TableDef}
@@ -32,12 +29,12 @@ use Rattle.sql_meaning.specs.Refused.{is_first}
 use Rattle.sql_meaning.specs.Scope.{Header, number_of, no_table, table_of, header_of, type_of_column}
 use Rattle.sql_meaning.specs.Value.{EntryRow, value}
 use Rattle.sql_to_rel.specs.Numbered.{numbered, flat, IsFull, AreFull}
-use Rattle.sql_to_rel.proofs.Rolls.{fold-Binary, fold-Literal}
 use Rattle.sql_to_rel.proofs.Values.{meaning_of-numbered}
 use Rattle.typed_meaning.specs.Rows.{IsFilled, IsTypedRow}
 use Rattle.typed_meaning.proofs.Lists.{All-flat_map, flat_map-twice}
 use Rattle.typed_meaning.proofs.Rows.{pairs-typed, partners-typed, no-rows, types-length}
-use Rattle.sql_algebra.specs.Algebra.{scan_of, and_all, conjunction, join_condition, join_kind, joined_with, joins, from_tree, kept}
+use Rattle.expr_parts.proofs.ConjunctLaws.{conjunction-true}
+use Rattle.sql_algebra.specs.Algebra.{scan_of, join_condition, join_kind, joined_with, joins, from_tree, kept}
 use Rattle.sql_algebra.specs.Formed.{begins_first}
 use Rattle.sql_algebra.proofs.Lists.{map-filter, map-flat_map, flat_map-one, all-kept}
 use Rattle.cal_rel.proofs.Reorders.{map-map}
@@ -52,55 +49,13 @@ row-value scope env h tree = sym (meaning_of-numbered env (full env h.filled) tr
 
 -- ---- several conditions
 
-true-truth : (v : Value) → is_true (value_of (truth_of v)) ≡ is_true v
-true-truth Null = refl
-true-truth (BoolValue b) = refl
-true-truth (Int n) = refl
-true-truth (Text t) = refl
-
-unknown-and : (v : Value) → is_true (value_of (and3 None (truth_of v))) ≡ false
-unknown-and Null = refl
-unknown-and (BoolValue true) = refl
-unknown-and (BoolValue false) = refl
-unknown-and (Int n) = refl
-unknown-and (Text t) = refl
-
-true-and : (v w : Value) → is_true (value_of (and3 (truth_of v) (truth_of w))) ≡ (is_true v && is_true w)
-true-and Null w = unknown-and w
-true-and (BoolValue true) w = true-truth w
-true-and (BoolValue false) w = refl
-true-and (Int n) w = unknown-and w
-true-and (Text t) w = unknown-and w
-
-and-grouped : (a b c : Bool) → ((a && b) && c) ≡ (a && (b && c))
-and-grouped true b c = refl
-and-grouped false b c = refl
-
-both-hold : (a b : Expr) (row : Row) → holds (Binary And a b) row ≡ (holds a row && holds b row)
-both-hold a b row = ap is_true (fold-Binary (meaning_step row) And a b) ∙ true-and (meaning_of a row) (meaning_of b row)
-
-all-hold : (row : Row) (a : Expr) (bs : List Expr) → holds (and_all a bs) row ≡ (holds a row && list_all (λ b. holds b row) bs)
-all-hold row a [] = by (holds a row)
-  where
-    by : (b : Bool) → b ≡ (b && true)
-    by true = refl
-    by false = refl
-all-hold row a (b ∷ bs) =
-    all-hold row (Binary And a b) bs
-    ∙ ap (λ x. x && list_all (λ b. holds b row) bs) (both-hold a b row)
-    ∙ and-grouped (holds a row) (holds b row) (list_all (λ b. holds b row) bs)
-
-conjunction-holds : (row : Row) (es : List Expr) → holds (conjunction es) row ≡ list_all (λ e. holds e row) es
-conjunction-holds row [] = ap is_true (fold-Literal (meaning_step row) (BoolValue true))
-conjunction-holds row (e ∷ es) = all-hold row e es
-
 each-holds : (scope : List Header) (env : List EntryRow) → IsTypedRow scope env → (trees : List Tree)
     → list_all (λ tree. is_true (value env tree)) trees ≡ list_all (λ e. holds e (flat env)) (map (numbered scope) trees)
 each-holds scope env h [] = refl
 each-holds scope env h (tree ∷ trees) = ap₂ (λ a b. a && b) (ap is_true (row-value scope env h tree)) (each-holds scope env h trees)
 
 goes-holds : (scope : List Header) (env : List EntryRow) → IsTypedRow scope env → (entry : FromEntry) → goes entry env ≡ holds (join_condition scope entry) (flat env)
-goes-holds scope env h entry = each-holds scope env h (conditions entry) ∙ sym (conjunction-holds (flat env) (map (numbered scope) (conditions entry)))
+goes-holds scope env h entry = each-holds scope env h (conditions entry) ∙ sym (conjunction-true (map (numbered scope) (conditions entry)) (flat env))
 
 -- ---- tables
 

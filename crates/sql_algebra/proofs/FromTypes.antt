@@ -60,7 +60,8 @@ use Rattle.typed_meaning.proofs.Nothing.{join-conditions, nothing}
 use Rattle.cal_rel.proofs.Reorders.{map-map}
 use Rattle.sql_algebra.specs.Formed.{begins_first, IsFormed}
 use Rattle.sql_algebra.proofs.Keyed.{conjunction-keys, still-key}
-use Rattle.sql_algebra.specs.Algebra.{scan_of, and_all, conjunction, join_condition, join_kind, joined_with, joins, from_tree}
+use Rattle.expr_parts.specs.Conjuncts.{and_all, conjunction}
+use Rattle.sql_algebra.specs.Algebra.{scan_of, join_condition, join_kind, joined_with, joins, from_tree}
 
 -- ---- the types of columns are at most as wide as themselves
 

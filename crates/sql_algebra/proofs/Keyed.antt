@@ -17,7 +17,7 @@ use Rattle.sql_meaning.specs.Bounds.{Equated, key_of, equated_op, equated_step, 
 use Rattle.sql_meaning.specs.Scope.{Header, column_at, place_of, types_in}
 use Rattle.sql_to_rel.specs.Numbered.{numbered, numbered_step}
 use Rattle.sql_to_rel.proofs.Rolls.{fold-Column, fold-Binary}
-use Rattle.sql_algebra.specs.Algebra.{and_all, conjunction}
+use Rattle.expr_parts.specs.Conjuncts.{and_all, conjunction}
 
 abbrev pub Among : List ℕ → ℕ → Type 0
 Among xs x = list_any (λ other. other == x) xs ≡ true

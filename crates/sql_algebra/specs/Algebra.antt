@@ -3,13 +3,13 @@ use Rattle.std.specs.Prelude.{ℕ, ◌+◌, ◌==◌, ◌&&◌, Bool, true, fals
 use Rattle.std.specs.List.{flat_map, list_all, position_or_len}
 use Rattle.cal_value.specs.declared.operator.Agg.{Agg}
 use Rattle.cal_value.specs.declared.operator.Agg.TheVariants.{Count}
-use Rattle.cal_value.specs.declared.operator.Op.TheVariants.{And}
-use Rattle.cal_value.specs.declared.value.Value.TheVariants.{Null, Bool as BoolValue}
+use Rattle.cal_value.specs.declared.value.Value.TheVariants.{Null}
 use Rattle.cal_aggregate.specs.Parts.{distinct}
 use Rattle.cal_expr.specs.declared.expr.Expr.{Expr, out-Expr}
 use Rattle.cal_expr.specs.declared.expr.Expr.TheOpen.{Expr-F}
 use Rattle.cal_expr.specs.declared.expr.Expr.TheVariants.{Column, Literal, Negate, Binary, Not, IsNull}
 use Rattle.cal_expr.specs.Equal.{expr_eq}
+use Rattle.expr_parts.specs.Conjuncts.{conjunction}
 use Rattle.cal_schema.specs.declared.agg_call.AggCall.{AggCall}
 use Rattle.cal_schema.specs.declared.join_kind.JoinKind.{JoinKind}
 use Rattle.cal_schema.specs.declared.join_kind.JoinKind.TheVariants.{Inner as InnerJoin, Left as LeftJoin}
@@ -38,16 +38,6 @@ use Rattle.sql_algebra.specs.declared.layout.Layout.{Layout}
 -- the table's rows; the number past the end where there is no table
 abbrev pub scan_of : Schema → FromEntry → RelTree
 scan_of schema entry = leaf (scan (unwrap_or (number_of schema entry.table) (length schema.tables)))
-
--- the condition before with each of these, grouped to the left
-abbrev pub and_all : Expr → List Expr → Expr
-and_all before [] = before
-and_all before (condition ∷ more) = and_all (Binary And before condition) more
-
--- TRUE where each condition is
-abbrev pub conjunction : List Expr → Expr
-conjunction [] = Literal (BoolValue true)
-conjunction (condition ∷ more) = and_all condition more
 
 -- over the entries up to its own
 abbrev pub join_condition : List Header → FromEntry → Expr

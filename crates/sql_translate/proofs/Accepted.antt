@@ -37,13 +37,16 @@ few-entries n e = by (nat_lt FROM_LIMIT n) refl e
     by true k f = absurd (cc)
     by false k f = grind (arith, nat_tests)
 
+pub few-tables : (schema : Schema) (made : CheckedSelect) → IsAccepted schema made → length made.select.from ≤ FROM_LIMIT
+few-tables schema made accepted =
+    let tables = or-none (unknown_table schema made.select) _ accepted.checked.accepted in
+    few-entries (length made.select.from) (or-none (too_many_tables made.select) _ tables.1).0
+
 pub accepted-small : (schema : Schema) (made : CheckedSelect) (from : List FromEntry) (scope : List Header) → IsValidSchema schema → IsAccepted schema made → from ≡ made.select.from → scope ≡ map (header_of schema) from
     → length (types_in scope) < 2 ^ 32
 accepted-small schema made from scope valid accepted is e =
-    let tables = or-none (unknown_table schema made.select) _ accepted.checked.accepted in
-    let few : length made.select.from ≤ FROM_LIMIT = few-entries (length made.select.from) (or-none (too_many_tables made.select) _ tables.1).0 in
     let P : List FromEntry → Type 0 = λ f. length f ≤ FROM_LIMIT in
-    types-small schema from scope valid (subst P (sym is) few) e
+    types-small schema from scope valid (subst P (sym is) (few-tables schema made accepted)) e
 
 pub formed-some : (select : Select) (from : List FromEntry) → IsFormed select → from ≡ select.from → from ≢ []
 formed-some select from formed is = λ none.

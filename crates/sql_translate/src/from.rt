@@ -10,7 +10,8 @@ ghost use Rattle.sql_to_rel.specs.Numbered.{numbered};
 use cal_expr::Expr;
 use cal_rel::Rel;
 use cal_schema::JoinKind;
-use cal_value::{NoMemory, Op, Value};
+use cal_value::{List, NoMemory};
+use expr_parts::conjunction;
 use sql_meaning::{Entry, conditions};
 use sql_to_rel::expression;
 use sql_tree::{FromEntry, How, Tree};
@@ -27,35 +28,19 @@ fn join_kind(how: &How) -> JoinKind
     }
 }
 
-// The condition before with each of these.
-fn and_all(
+fn all_numbered(
     alloc: Global,
-    before: Expr,
     conditions: &[Tree],
     scope: &[Entry<'_>],
-) -> Result<Expr, NoMemory>
+) -> Result<List<Expr>, NoMemory>
     requires { length (types_in scope.now) < 2 ^ 32 }
-    ensures { IfOk result (λ e. e ≡ spec.and_all before (map (numbered scope.now) conditions.now)) }
+    ensures { IfOk result (λ all. all ≡ map (numbered scope.now) conditions.now) }
 {
-    let mut all = before;
+    let mut all = List::new(alloc);
     for condition in conditions {
-        let next = expression(alloc, condition, scope)?;
-        all = Expr::binary(alloc, Op::And, all, next)?;
+        all.push(expression(alloc, condition, scope)?)?;
     }
     Ok(all)
-}
-
-fn conjunction(alloc: Global, conditions: &[Tree], scope: &[Entry<'_>]) -> Result<Expr, NoMemory>
-    requires { length (types_in scope.now) < 2 ^ 32 }
-    ensures { IfOk result (λ e. e ≡ spec.conjunction (map (numbered scope.now) conditions.now)) }
-{
-    match conditions {
-        [] => Ok(Expr::Literal(Value::Bool(true))),
-        [first, more @ ..] => {
-            let first = expression(alloc, first, scope)?;
-            and_all(alloc, first, more, scope)
-        }
-    }
 }
 
 fn join_condition(alloc: Global, entry: &FromEntry, scope: &[Entry<'_>]) -> Result<Expr, NoMemory>
@@ -63,7 +48,8 @@ fn join_condition(alloc: Global, entry: &FromEntry, scope: &[Entry<'_>]) -> Resu
     ensures { IfOk result (λ e. e ≡ spec.join_condition scope.now entry.now) }
 {
     let conditions = conditions(alloc, entry)?;
-    conjunction(alloc, conditions.as_slice(), scope)
+    let all = all_numbered(alloc, conditions.as_slice(), scope)?;
+    conjunction(alloc, all)
 }
 
 // The tree of the entries before joined with this one, whose table has this number and which is the last of the scope.
