@@ -32,9 +32,9 @@ use Rattle.filter_images.specs.RowLemmas.{inner-filtered, left-filtered}
 
 -- ---- the type of the left side
 
-record IsTyped (info : Info) (t : Tree) : Type 0 where
-  own : RelType
-  is : type_of info t ≡ Some own
+pub record IsTyped (info : Info) (t : Tree) : Type 0 where
+  pub own : RelType
+  pub is : type_of info t ≡ Some own
 
 left-typed : (info : Info) (predicate : Expr) (kind : JoinKind) (on : Expr) (s t : Tree) (u : RelType)
     → type_of info (unary (filter_by predicate) (binary (join_on kind on) s t)) ≡ Some u → IsTyped info s
@@ -44,14 +44,14 @@ left-typed info predicate kind on s t u e =
     record { own = b.first; is = b.first_is }
 
 -- each row of a well-formed tree has as many values as the tree has columns
-rows-long : (info : Info) (db : Db) (holes : ℕ → List Row) (t : Tree) → IsTyped info t → Fits db info.schema → AreTrueOf info.sets holes
+pub rows-long : (info : Info) (db : Db) (holes : ℕ → List Row) (t : Tree) → IsTyped info t → Fits db info.schema → AreTrueOf info.sets holes
     → All (λ row. length row ≡ width info t) (bag info db holes t)
 rows-long info db holes t h fits true_of =
     All-weaker (λ row. HasTypes row h.own.columns) (λ row. length row ≡ width info t) (λ row typed. types-length row h.own.columns typed ∙ type-width info t h.own h.is)
     (bag info db holes t) (type-true info db holes t h.own fits true_of h.is).typed
 
 -- with narrower sets a tree has as many columns
-width-steady : (m : ℕ → ℕ) (from to : Info) (t : Tree) → IsTyped from t → IsValidSchema from.schema → Narrows m from to → width to (renumbered m t) ≡ width from t
+pub width-steady : (m : ℕ → ℕ) (from to : Info) (t : Tree) → IsTyped from t → IsValidSchema from.schema → Narrows m from to → width to (renumbered m t) ≡ width from t
 width-steady m from to t h valid narrows =
     let w = type-narrow m from to t h.own valid narrows h.is in
     sym (type-width to (renumbered m t) w.found w.is) ∙ wide-length w.found.columns h.own.columns w.within.columns ∙ type-width from t h.own h.is

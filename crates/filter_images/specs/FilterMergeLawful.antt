@@ -16,7 +16,7 @@ use Rattle.filter_images.specs.FilterMerge.{merged_filters}
 use Rattle.filter_images.specs.ListLemmas.{filter-both}
 use Rattle.filter_images.specs.FilteredLemmas.{all_hold, holds-conjuncts, bag-filtered, holes-filtered, renumbered-filtered, SameBag-same}
 
-both-hold : (lower upper : Expr) (row : Row) → all_hold (conjuncts_of lower ++ conjuncts_of upper) row ≡ (holds lower row && holds upper row)
+pub both-hold : (lower upper : Expr) (row : Row) → all_hold (conjuncts_of lower ++ conjuncts_of upper) row ≡ (holds lower row && holds upper row)
 both-hold lower upper row =
     list_all-append (λ c. holds c row) (conjuncts_of lower) (conjuncts_of upper)
     ∙ ap (λ b. b && all_hold (conjuncts_of upper) row) (sym (holds-conjuncts lower row)) ∙ ap (λ b. holds lower row && b) (sym (holds-conjuncts upper row))
