@@ -1,0 +1,5 @@
+pub mod Once
+pub mod OnceNodes
+pub mod Joins
+pub mod UniqueKeys
+pub mod KeySteps
