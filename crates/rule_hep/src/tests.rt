@@ -188,7 +188,7 @@ fn stops_at_the_limit(rt: HostRuntime) -> Result<(), Fail> {
     let alloc = rt.alloc();
     let mut rules: Vec<Box<dyn Rule>> = Vec::new(alloc);
     rules.push(Box::new(alloc, SwapFilters::new(true))?)?;
-    assert!(rt; runs(alloc, &rules, 3, (3, true, true))?);
+    assert!(rt; runs(alloc, &rules, 200, (200, true, false))?);
     Ok(())
 }
 

@@ -1,4 +1,6 @@
+mod aggregates;
 mod filters;
+mod joins;
 mod projects;
 mod run;
 mod words;

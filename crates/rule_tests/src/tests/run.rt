@@ -1,6 +1,6 @@
-//! Rules over trees of three tables.
+//! Rules over trees of three tables and two sets.
 use crate::tests::words::read;
-use cal_rel::{PlanInfo, Rel};
+use cal_rel::{PlanInfo, Rel, RelType};
 use cal_schema::{AdapterKind, ColumnDef, Schema, TableDef};
 use cal_value::{Interval, List, NoMemory, SqlText, SqlType};
 use rule_hep::Rule;
@@ -19,8 +19,17 @@ fn columns(alloc: Global, kinds: [SqlType; 2]) -> Result<List<ColumnDef>, NoMemo
     Ok(columns)
 }
 
-fn table(alloc: Global, kinds: [SqlType; 2]) -> Result<TableDef, NoMemory> {
+fn key(alloc: Global, columns: &[u32]) -> Result<List<u32>, NoMemory> {
+    let mut key = List::new(alloc);
+    for column in columns {
+        key.push(*column)?;
+    }
+    Ok(key)
+}
+
+fn table(alloc: Global, kinds: [SqlType; 2], primary_key: &[u32]) -> Result<TableDef, NoMemory> {
     let columns = columns(alloc, kinds)?;
+    let primary_key = key(alloc, primary_key)?;
     Ok(TableDef {
         schema: no_name(alloc),
         name: no_name(alloc),
@@ -28,7 +37,7 @@ fn table(alloc: Global, kinds: [SqlType; 2]) -> Result<TableDef, NoMemory> {
         adapter: AdapterKind::Mem,
         file: no_name(alloc),
         max_rows: 9,
-        primary_key: List::new(alloc),
+        primary_key,
     })
 }
 
@@ -36,18 +45,37 @@ fn digits(nullable: bool) -> SqlType {
     SqlType::integer(nullable, Interval::Range { lo: 0, hi: 9 })
 }
 
-// Two tables of two whole numbers, of which the second may be NULL, and one of a text and a truth value.
-fn schema(alloc: Global) -> Result<Schema, NoMemory> {
+// Two tables of two whole numbers, of which the first is the key and the second may be NULL, one of a text and a truth value, and one of two
+// whole numbers that are the key.
+pub(crate) fn schema(alloc: Global) -> Result<Schema, NoMemory> {
     let numbers = [digits(false), digits(true)];
     let others = [SqlType::text(false), SqlType::boolean(true)];
     let mut tables = List::new(alloc);
-    for kinds in [numbers, numbers, others] {
-        tables.push(table(alloc, kinds)?)?;
-    }
+    tables.push(table(alloc, numbers, &[0])?)?;
+    tables.push(table(alloc, numbers, &[0])?)?;
+    tables.push(table(alloc, others, &[])?)?;
+    tables.push(table(alloc, [digits(false), digits(false)], &[0, 1])?)?;
     Ok(Schema {
         default_schema: None,
         tables,
     })
+}
+
+fn rows_of<const N: usize>(
+    alloc: Global,
+    kinds: [SqlType; N],
+) -> Result<Option<RelType>, NoMemory> {
+    let columns = List::from_vec(Vec::from_array(alloc, kinds)?);
+    Ok(Some(RelType { columns, bound: 9 }))
+}
+
+// Sets of three whole numbers, of a text and a truth value, and one that is gone.
+fn sets(alloc: Global) -> Result<List<Option<RelType>>, NoMemory> {
+    let mut sets = List::new(alloc);
+    sets.push(rows_of(alloc, [digits(false), digits(true), digits(true)])?)?;
+    sets.push(rows_of(alloc, [SqlType::text(false), SqlType::boolean(true)])?)?;
+    sets.push(None)?;
+    Ok(sets)
 }
 
 fn is_same(image: &Rel, wanted: Rel) -> bool {
@@ -147,17 +175,29 @@ fn first_wrong_over<R: Rule>(
     alloc: Global,
     rule: &R,
     schema: &Schema,
+    sets: &List<Option<RelType>>,
     table: &'static str,
 ) -> Result<&'static str, NoMemory> {
     let tiles = List::new(alloc);
-    let sets = List::new(alloc);
-    let info = PlanInfo::new(schema, &tiles, &sets);
+    let info = PlanInfo::new(schema, &tiles, sets);
     for row in table.lines() {
         if !holds(alloc, rule, &info, row)? {
             return Ok(row);
         }
     }
     Ok("")
+}
+
+fn first_wrong_over_sets<R: Rule>(
+    alloc: Global,
+    rule: &R,
+    schema: &Schema,
+    table: &'static str,
+) -> Result<&'static str, NoMemory> {
+    let sets = sets(alloc)?;
+    let wrong = first_wrong_over(alloc, rule, schema, &sets, table);
+    drop(sets);
+    wrong
 }
 
 /// The first row `TREE => IMAGE` or `TREE => none` that doesn't hold; empty where there is none.
@@ -167,7 +207,7 @@ pub(crate) fn first_wrong<R: Rule>(
     table: &'static str,
 ) -> Result<&'static str, NoMemory> {
     let schema = schema(alloc)?;
-    let wrong = first_wrong_over(alloc, rule, &schema, table);
+    let wrong = first_wrong_over_sets(alloc, rule, &schema, table);
     drop(schema);
     wrong
 }

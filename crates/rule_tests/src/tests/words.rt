@@ -35,6 +35,8 @@ fn agg_of(word: &str) -> Option<Agg> {
     match word {
         "COUNT" => Some(Agg::Count),
         "SUM" => Some(Agg::Sum),
+        "SUM0" => Some(Agg::Sum0),
+        "MIN" => Some(Agg::Min),
         "MAX" => Some(Agg::Max),
         _ => None,
     }
@@ -235,6 +237,10 @@ fn push_word(alloc: Global, stacks: &mut Stacks, word: &str) -> Result<bool, NoM
         stacks.trees.push(Rel::Scan(table))?;
         return Ok(true);
     }
+    if let Some(set) = number_after(word, 'H') {
+        stacks.trees.push(Rel::Hole(set))?;
+        return Ok(true);
+    }
     if let Some(group) = number_after(word, '#') {
         stacks.groups.push(group)?;
         return Ok(true);
@@ -304,8 +310,8 @@ fn read_tree(alloc: Global, stacks: &mut Stacks, text: &str) -> Result<Option<Re
     }
 }
 
-/// The tree of these words; None where they are none of one tree. `T0` is a scan, `$0` a column, `#0` a group. A node takes the
-/// trees, and all expressions, groups or types, that its words before it left.
+/// The tree of these words; None where they are none of one tree. `T0` is a scan, `H0` a hole, `$0` a column, `#0` a group. A
+/// node takes the trees, and all expressions, groups or types, that its words before it left.
 pub(crate) fn read(alloc: Global, text: &str) -> Result<Option<Rel>, NoMemory> {
     let mut stacks = no_words(alloc);
     let tree = read_tree(alloc, &mut stacks, text);
