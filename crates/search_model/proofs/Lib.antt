@@ -1,0 +1,10 @@
+pub mod BindLemmas
+pub mod SearchLemmas
+pub mod AmongLemmas
+pub mod GatherLemmas
+pub mod FallLemmas
+pub mod DifferLemmas
+pub mod GrownLemmas
+pub mod ListedLemmas
+pub mod OnlyLemmas
+pub mod TripleLemmas
