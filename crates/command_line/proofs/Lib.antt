@@ -1,1 +1,2 @@
+mod BudgetLemmas
 mod ReadingLemmas

@@ -6,7 +6,7 @@ use Rattle.clap.specs.Kinds.{Kinds, HasKind}
 use Rattle.clap.specs.Matches.{first_value}
 use Rattle.clap.specs.Simple.{App, is_simple, matches_of}
 use Rattle.clap.specs.Values.{kind_of}
-use Rattle.clap.specs.Walk.{rows_of}
+use Rattle.clap.specs.Walk.{first_of, rows_of}
 use Rattle.clap.specs.declared.error.Error.{Error}
 use Rattle.clap.specs.declared.error.kind.ErrorKind.TheVariants.{OutOfMemory}
 use Rattle.clap.specs.declared.parser.matches.Found.{Found}
@@ -21,16 +21,17 @@ pub calq_is_free : is_simple_and_free calq ≡ true
 calq_is_free = refl
 
 read_plain : (f : Found) (texts : List (List ℕ)) (found : Asked) → fault_of calq texts ≡ [] → rows_of f ≡ matches_of calq texts →
-    found ≡ asked (first_value f (codes "MODEL")) (first_value f (codes "SQL")) → Some found ≡ reading_of texts
+    found ≡ asked (first_value f (codes "MODEL")) (first_value f (codes "SQL")) (first_value f (codes "budget")) → Some found ≡ reading_of texts
 read_plain f texts found fine rows is =
-    ap Some (is ∙ ap₂ asked (first_value-rows f (codes "MODEL")) (first_value-rows f (codes "SQL"))
+    ap Some (is ∙ ap₂ (λ model sql. asked model sql (first_value f (codes "budget"))) (first_value-rows f (codes "MODEL")) (first_value-rows f (codes "SQL"))
+    ∙ ap (asked (first_of (codes "MODEL") (rows_of f)) (first_of (codes "SQL") (rows_of f))) (first_value-rows f (codes "budget"))
     ∙ ap in_matches rows)
     ∙ ap (λ (kinds : Kinds). without_fault kinds (in_matches (matches_of calq texts))) (sym fine)
 
 -- of a command that is this one
 pub read_when_matched : (a : App) (f : Found) (texts : List (List ℕ)) (found : Asked) → a ≡ calq →
     (is_simple_and_free a ≡ true → fault_of a texts ≡ []) → (is_simple a ≡ true → rows_of f ≡ matches_of a texts) →
-    found ≡ asked (first_value f (codes "MODEL")) (first_value f (codes "SQL")) → Some found ≡ reading_of texts
+    found ≡ asked (first_value f (codes "MODEL")) (first_value f (codes "SQL")) (first_value f (codes "budget")) → Some found ≡ reading_of texts
 read_when_matched a f texts found same fine rows is =
     read_plain f texts found
     (ap (λ (b : App). fault_of b texts) (sym same) ∙ fine (ap is_simple_and_free same ∙ calq_is_free))

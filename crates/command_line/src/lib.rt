@@ -4,7 +4,7 @@
 mod command;
 mod reading;
 
-pub use reading::{Asked, read_words};
+pub use reading::{Asked, BUDGET_DEFAULT, read_words};
 
 #[cfg(test)]
 mod tests;

@@ -1,7 +1,9 @@
 //! What the words ask.
-ghost use Rattle.std.specs.Prelude.{◌≡◌, ◌↔◌, [], None, IfOk, map, encode_utf8_all, codes, unwrap_or};
+ghost use Rattle.std.specs.Prelude.{◌≡◌, ◌↔◌, [], None, IfOk, IfSome, map, encode_utf8_all, codes, unwrap_or};
 ghost use Rattle.std.specs.Str.{chars};
 ghost use Rattle.clap.specs.Matches.{first_value, found_of};
+ghost use Rattle.clap.specs.Values.{IsUnsignedIn};
+ghost use Rattle.cal_value.specs.declared.limits.TheConstants.{BUDGET_LIMIT};
 ghost use Rattle.command_line.specs.Reading as spec;
 
 use crate::command::calq_command;
@@ -11,11 +13,15 @@ use clap::ArgMatches;
 use clap::error::ErrorKind;
 use std::alloc::Global;
 
-/// What a command line asks: the name of the model's file, and the text of the statement.
+/// The budget where a command line gives none, in rewrites of a search.
+pub const BUDGET_DEFAULT: u32 = 2_000;
+
+/// What a command line asks: the name of the model's file, the text of the statement, and how many rewrites a search may make.
 #[derive(Debug, Drop)]
 pub struct Asked {
     pub model: Word,
     pub sql: Word,
+    pub budget: u32,
 }
 
 fn texts_of<'a>(alloc: Global, words: &'a [Word]) -> Result<Vec<&'a str>, NoMemory>
@@ -39,18 +45,41 @@ fn word_in(alloc: Global, matches: &ArgMatches<'_>, id: &str) -> Result<Word, No
     }
 }
 
+fn number_in(text: &str) -> u32
+    requires { IsUnsignedIn 1 BUDGET_LIMIT text.now }
+    ensures { result ≡ spec.number_of text.now }
+{
+    text.parse::<u32>().unwrap_or(BUDGET_DEFAULT)
+}
+
+fn budget_in(matches: &ArgMatches<'_>) -> u32
+    requires { IfSome (first_value (found_of matches.now) (codes "budget"))
+        (IsUnsignedIn 1 BUDGET_LIMIT) }
+    ensures { result ≡ spec.budget_of (first_value (found_of matches.now) (codes "budget")) }
+{
+    match matches.get_str("budget") {
+        Some(text) => number_in(text),
+        None => BUDGET_DEFAULT,
+    }
+}
+
 fn asked_in(alloc: Global, matches: &ArgMatches<'_>) -> Result<Asked, NoMemory>
+    requires { IfSome (first_value (found_of matches.now) (codes "budget"))
+        (IsUnsignedIn 1 BUDGET_LIMIT) }
     ensures { IfOk result (λ found. found
         ≡ spec.asked (first_value (found_of matches.now) (codes "MODEL"))
-        (first_value (found_of matches.now) (codes "SQL"))) }
+        (first_value (found_of matches.now) (codes "SQL"))
+        (first_value (found_of matches.now) (codes "budget"))) }
 {
     let model = word_in(alloc, matches, "MODEL")?;
     let sql = word_in(alloc, matches, "SQL")?;
-    Ok(Asked { model, sql })
+    let budget = budget_in(matches);
+    Ok(Asked { model, sql, budget })
 }
 
 fn matched(alloc: Global, texts: &[&str]) -> Result<Option<Asked>, NoMemory>
-    ensures { IfOk result (λ found. found ≡ spec.reading_of (map (λ text. text.now) texts.now)) }
+    ensures reading { IfOk result (λ found. found ≡ spec.reading_of (map (λ text. text.now) texts.now)) }
+    ensures budget { IfOk result (λ found. IfSome found (λ asked. spec.IsBudget asked.budget)) }
 {
     let command = calq_command(alloc)?;
     match command.try_get_matches_from(texts) {
@@ -66,17 +95,19 @@ fn matched(alloc: Global, texts: &[&str]) -> Result<Option<Asked>, NoMemory>
 }
 
 fn words_read(alloc: Global, words: &[Word]) -> Result<Option<Asked>, NoMemory>
-    ensures { IfOk result (λ found. found ≡ spec.reading words.now) }
+    ensures reading { IfOk result (λ found. found ≡ spec.reading words.now) }
+    ensures budget { IfOk result (λ found. IfSome found (λ asked. spec.IsBudget asked.budget)) }
 {
     let texts = texts_of(alloc, words)?;
     matched(alloc, texts.as_slice())
 }
 
 /// What the words ask, which are those after the program's name: None exactly where `clap` gives a fault for them as words of
-/// `calq MODEL SQL [--budget N]`. N is a whole number from 1 to 20,000, and has no effect yet.
+/// `calq MODEL SQL [--budget N]`. N is a whole number from 1 to 20,000, and `BUDGET_DEFAULT` where none is given.
 pub fn read_words(alloc: Global, words: &[Word]) -> Result<Option<Asked>, NoMemory>
     ensures reading { IfOk result (λ found. found ≡ spec.reading words.now) }
     ensures none { IfOk result (λ found. (found ≡ None) ↔ spec.IsFaulty words.now) }
+    ensures budget { IfOk result (λ found. IfSome found (λ asked. spec.IsBudget asked.budget)) }
 {
     words_read(alloc, words)
 }

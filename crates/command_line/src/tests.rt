@@ -1,4 +1,4 @@
-use crate::{Asked, read_words};
+use crate::{Asked, BUDGET_DEFAULT, read_words};
 use cal_outside::Word;
 use cal_value::{List, NoMemory};
 use std::alloc::Global;
@@ -13,9 +13,11 @@ fn read(alloc: Global, text: &str) -> Result<Option<Asked>, NoMemory> {
     read_words(alloc, words.as_slice())
 }
 
-fn is_asked(alloc: Global, text: &str, model: &str, sql: &str) -> bool {
+fn is_asked(alloc: Global, text: &str, budget: u32) -> bool {
     match read(alloc, text) {
-        Ok(Some(asked)) => asked.model.as_str() == model && asked.sql.as_str() == sql,
+        Ok(Some(asked)) => {
+            asked.model.as_str() == "m" && asked.sql.as_str() == "SELECT" && asked.budget == budget
+        }
         _ => false,
     }
 }
@@ -27,13 +29,15 @@ fn is_refused(alloc: Global, text: &str) -> bool {
 #[test]
 fn words_with_and_without_a_reading(rt: HostRuntime) {
     let alloc = rt.alloc();
-    for text in [
-        "m\nSELECT",
-        "m\n--budget\n5\nSELECT",
-        "--budget=20000\nm\nSELECT",
-        "--\nm\nSELECT",
+    for (text, budget) in [
+        ("m\nSELECT", 2_000),
+        ("m\n--budget\n5\nSELECT", 5),
+        ("m\nSELECT\n--budget\n1", 1),
+        ("--budget=20000\nm\nSELECT", 20_000),
+        ("m\nSELECT\n--budget\n+007", 7),
+        ("--\nm\nSELECT", BUDGET_DEFAULT),
     ] {
-        assert!(rt; is_asked(alloc, text, "m", "SELECT"));
+        assert!(rt; is_asked(alloc, text, budget));
     }
     for text in [
         "",
