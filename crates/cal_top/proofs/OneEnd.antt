@@ -169,7 +169,7 @@ record HasReplied (rules : List Meaning) (old : StoreState) (words : List (List 
   words_have : reading words ≡ Some asked
   read : AreRead old (next_of asked.model) files
   fault_is : fault ≡ None
-  replied : IsReplied rules (next_of asked.model files) asked.sql db reply
+  replied : IsReplied rules (next_of asked.model files) asked db reply
 
 abbrev End : List Meaning → StoreState → List (List ℕ) → Option TopFault → List FileRead → Option Db → Option Reply → Type 0
 End rules old words fault files db reply =
@@ -230,16 +230,16 @@ some_replies r s a b p q same =
 
 -- two right replies are the same
 abbrev pub OneReply : List Meaning → Type 0
-OneReply rules = (schema : Schema) (db : Db) (text : List ℕ) (a b : Reply) → IsReplyTo rules schema db text a → IsReplyTo rules schema db text b → AreSameReplies a b
+OneReply rules = (budget : ℕ) (schema : Schema) (db : Db) (text : List ℕ) (a b : Reply) → IsReplyTo rules budget schema db text a → IsReplyTo rules budget schema db text b → AreSameReplies a b
 
-same_replied : (rules : List Meaning) → OneReply rules → (next : Next) (sql : List ℕ) (d e : Option Db) (r s : Option Reply) → IsReplied rules next sql d r → IsReplied rules next sql e s → (d ≡ e) × HaveSameReplies r s
-same_replied rules one next sql d e r s p q =
+same_replied : (rules : List Meaning) → OneReply rules → (next : Next) (asked : Asked) (d e : Option Db) (r s : Option Reply) → IsReplied rules next asked d r → IsReplied rules next asked e s → (d ≡ e) × HaveSameReplies r s
+same_replied rules one next asked d e r s p q =
     let whole = sym p.all_read ∙ q.all_read in
     let schema = same_schema p.schema q.schema p.tables q.tables whole in
     let tables = same_tables p.schema q.schema p.tables q.tables whole in
-    let moved : IsReplyTo rules p.schema p.tables sql q.answer =
-    subst (λ (x : Schema). IsReplyTo rules x p.tables sql q.answer) (sym schema) (subst (λ (x : Db). IsReplyTo rules q.schema x sql q.answer) (sym tables) q.replied) in
-    (p.db_is ∙ ap Some tables ∙ sym q.db_is, some_replies r s p.answer q.answer p.reply_is q.reply_is (one p.schema p.tables sql p.answer q.answer p.replied moved))
+    let moved : IsReplyTo rules asked.budget p.schema p.tables asked.sql q.answer =
+    subst (λ (x : Schema). IsReplyTo rules asked.budget x p.tables asked.sql q.answer) (sym schema) (subst (λ (x : Db). IsReplyTo rules asked.budget q.schema x asked.sql q.answer) (sym tables) q.replied) in
+    (p.db_is ∙ ap Some tables ∙ sym q.db_is, some_replies r s p.answer q.answer p.reply_is q.reply_is (one asked.budget p.schema p.tables asked.sql p.answer q.answer p.replied moved))
 
 not_done : (store : StoreState) (next : Next) (fault : StartFault) (schema : Schema) (db : Db) → Follows store next fault → next ≡ done schema db → ⊥
 not_done store next fault schema db (inl p) is = stops_done fault schema db (sym p ∙ is)
@@ -251,7 +251,7 @@ stopped_or_replied : (rules : List Meaning) (old : StoreState) (file : Files) (w
 stopped_or_replied rules old file words f fs d r g gs e s told p q =
     let asked : q.asked ≡ p.asked = same_asked q.asked p.asked (sym q.words_have ∙ p.words_have) in
     let read : AreRead old (next_of p.asked.model) gs = subst (λ (a : Asked). AreRead old (next_of a.model) gs) asked q.read in
-    let reply : IsReplied rules (next_of p.asked.model gs) p.asked.sql e s = subst (λ (a : Asked). IsReplied rules (next_of a.model gs) a.sql e s) asked q.replied in
+    let reply : IsReplied rules (next_of p.asked.model gs) p.asked e s = subst (λ (a : Asked). IsReplied rules (next_of a.model gs) a e s) asked q.replied in
     let files : fs ≡ gs = same_files old file (next_of p.asked.model) told [] fs gs p.read read
     (last_follows old file (next_of p.asked.model fs) p.start told p.cause)
     (last_done old (next_of p.asked.model gs) reply.schema reply.tables reply.all_read) in
@@ -283,12 +283,12 @@ one_of_ends rules one old file words f g fs gs d e r s told (inr (inr p)) (inr (
 one_of_ends rules one old file words f g fs gs d e r s told (inr (inr p)) (inr (inr q)) =
     let asked : q.asked ≡ p.asked = same_asked q.asked p.asked (sym q.words_have ∙ p.words_have) in
     let read : AreRead old (next_of p.asked.model) gs = subst (λ (a : Asked). AreRead old (next_of a.model) gs) asked q.read in
-    let reply : IsReplied rules (next_of p.asked.model gs) p.asked.sql e s = subst (λ (a : Asked). IsReplied rules (next_of a.model gs) a.sql e s) asked q.replied in
+    let reply : IsReplied rules (next_of p.asked.model gs) p.asked e s = subst (λ (a : Asked). IsReplied rules (next_of a.model gs) a e s) asked q.replied in
     let files : fs ≡ gs = same_files old file (next_of p.asked.model) told [] fs gs p.read read
     (last_done old (next_of p.asked.model fs) p.replied.schema p.replied.tables p.replied.all_read)
     (last_done old (next_of p.asked.model gs) reply.schema reply.tables reply.all_read) in
-    let both : (d ≡ e) × HaveSameReplies r s = same_replied rules one (next_of p.asked.model fs) p.asked.sql d e r s p.replied
-    (subst (λ (x : List FileRead). IsReplied rules (next_of p.asked.model x) p.asked.sql e s) (sym files) reply) in
+    let both : (d ≡ e) × HaveSameReplies r s = same_replied rules one (next_of p.asked.model fs) p.asked d e r s p.replied
+    (subst (λ (x : List FileRead). IsReplied rules (next_of p.asked.model x) p.asked e s) (sym files) reply) in
     same_end f g fs gs d e r s (p.fault_is ∙ sym q.fault_is) files both.0 both.1
 
 pub one_end : (rules : List Meaning) → OneReply rules → (old : StoreState) (file : Files) (words : List (List ℕ)) (a b : RunEnd) → old.files ≡ Some file

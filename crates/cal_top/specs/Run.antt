@@ -34,14 +34,14 @@ pub record HasRead (store : StoreState) (words : List (List ℕ)) (files : List 
   pub then : P asked
 
 -- the files give a schema and its tables, and the statement has its reply over them, planned by these rules
-pub record IsReplied (rules : List Meaning) (next : Next) (sql : List ℕ) (db : Option Db) (reply : Option Reply) : Type 0 where
+pub record IsReplied (rules : List Meaning) (next : Next) (asked : Asked) (db : Option Db) (reply : Option Reply) : Type 0 where
   pub schema : Schema
   pub tables : Db
   pub answer : Reply
   pub all_read : next ≡ done schema tables
   pub db_is : db ≡ Some tables
   pub reply_is : reply ≡ Some answer
-  pub replied : IsReplyTo rules schema tables sql answer
+  pub replied : IsReplyTo rules asked.budget schema tables asked.sql answer
 
 -- the start ended with this fault, for its cause
 pub record IsStopped (old new : StoreState) (next : Next) (fault : TopFault) (db : Option Db) (reply : Option Reply) : Type 0 where
@@ -53,11 +53,11 @@ pub record IsStopped (old new : StoreState) (next : Next) (fault : TopFault) (db
 -- The cause of each fault that a run may end with, and of none. At want of memory, which is free, tables and reply are both there and right,
 -- or both absent.
 abbrev pub HasCause : List Meaning → StoreState → StoreState → List (List ℕ) → Option TopFault → List FileRead → Option Db → Option Reply → Type 0
-HasCause rules old new words None files db reply = HasRead old words files (λ asked. IsReplied rules (next_of asked.model files) asked.sql db reply)
+HasCause rules old new words None files db reply = HasRead old words files (λ asked. IsReplied rules (next_of asked.model files) asked db reply)
 HasCause rules old new words (Some BadWords) files db reply = (reading words ≡ None) × NothingRead files db reply
 HasCause rules old new words (Some (SinkFault of)) files db reply = ⊥
 HasCause rules old new words (Some NoMemory) files db reply =
-    NothingRead files db reply ⊎ HasRead old words files (λ asked. NoReply db reply ⊎ IsReplied rules (next_of asked.model files) asked.sql db reply)
+    NothingRead files db reply ⊎ HasRead old words files (λ asked. NoReply db reply ⊎ IsReplied rules (next_of asked.model files) asked db reply)
 HasCause rules old new words (Some fault) files db reply = HasRead old words files (λ asked. IsStopped old new (next_of asked.model files) fault db reply)
 
 -- ---- the end

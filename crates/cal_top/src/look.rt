@@ -82,14 +82,15 @@ fn reply_over_parts(
     schema: &Schema,
     parts: List<Arc<List<Row>>>,
     rules: &[Box<dyn Rule>],
+    budget: u32,
 ) -> Result<Reply, NoMemory>
     requires valid { IsValidSchema schema.now }
     requires fits { Fits (record { tables = map arc_value parts }) schema.now }
-    ensures { IfOk result (IsReplyTo (map (λ b. meaning b) rules.now) schema.now
+    ensures { IfOk result (IsReplyTo (map (λ b. meaning b) rules.now) budget schema.now
         (record { tables = map arc_value parts }) sql.now) }
 {
     let snapshot = Snapshot::start(alloc, parts)?;
-    reply_to(alloc, sql.as_str(), schema, &snapshot, rules)
+    reply_to(alloc, sql.as_str(), schema, &snapshot, rules, budget)
 }
 
 // The reply to the statement over the tables, which are answered as they were.
@@ -99,16 +100,17 @@ fn reply_over(
     schema: &Schema,
     db: Db,
     rules: &[Box<dyn Rule>],
+    budget: u32,
 ) -> Result<Replied, NoMemory>
     requires valid { IsValidSchema schema.now }
     requires fits { Fits db schema.now }
     ensures db { IfOk result (λ made. made.db ≡ db) }
     ensures reply { IfOk result (λ made.
-        IsReplyTo (map (λ b. meaning b) rules.now) schema.now db sql.now made.reply) }
+        IsReplyTo (map (λ b. meaning b) rules.now) budget schema.now db sql.now made.reply) }
 {
     let parts = shared(alloc, db.tables)?;
     let again = shared_again(alloc, parts.as_slice())?;
-    let reply = reply_over_parts(alloc, sql, schema, again, rules)?;
+    let reply = reply_over_parts(alloc, sql, schema, again, rules, budget)?;
     let tables = all_unshared(alloc, parts)?;
     Ok(Replied {
         db: Db { tables },
@@ -137,7 +139,14 @@ pub fn look<S: Store>(
     };
     let StartRecord { files, outcome } = start(alloc, &asked.model, store);
     match outcome {
-        Ok(Started { schema, db }) => match reply_over(alloc, &asked.sql, &schema, db, rules) {
+        Ok(Started { schema, db }) => match reply_over(
+            alloc,
+            &asked.sql,
+            &schema,
+            db,
+            rules,
+            asked.budget,
+        ) {
             Ok(made) => with_reply(alloc, files, made),
             Err(_) => stopped(alloc, TopFault::NoMemory, files),
         },

@@ -5,7 +5,9 @@ use cal_outside::{FileStore, StdSink, Word};
 use cal_top::run_query;
 use cal_value::{List, NoMemory};
 use rule_hep::Rule;
+use rules_agg::{AggregateProjectMerge, AggregateRemove};
 use rules_filter::{FilterAggregateTranspose, FilterIntoJoin, FilterMerge, FilterProjectTranspose};
+use rules_join::{JoinAssociate, JoinCommute};
 use rules_project::{ProjectMerge, ProjectRemove, PruneEmpty, ReduceExpressions};
 use std::alloc::Global;
 use std::env;
@@ -36,7 +38,7 @@ fn words<R: Env + AllocGlobal>(rt: &R) -> Result<List<Word>, NoMemory> {
 // The status of the run, by the rules in this order.
 fn run(rt: &HostRuntime) -> Result<u8, NoMemory> {
     let alloc = rt.alloc();
-    let rules: [Box<dyn Rule>; 8] = [
+    let rules: [Box<dyn Rule>; 12] = [
         Box::new(alloc, ReduceExpressions::new())?,
         Box::new(alloc, PruneEmpty::new())?,
         Box::new(alloc, FilterMerge::new())?,
@@ -45,6 +47,10 @@ fn run(rt: &HostRuntime) -> Result<u8, NoMemory> {
         Box::new(alloc, FilterAggregateTranspose::new())?,
         Box::new(alloc, ProjectMerge::new())?,
         Box::new(alloc, ProjectRemove::new())?,
+        Box::new(alloc, AggregateProjectMerge::new())?,
+        Box::new(alloc, AggregateRemove::new())?,
+        Box::new(alloc, JoinCommute::new())?,
+        Box::new(alloc, JoinAssociate::new())?,
     ];
     let words = words(rt)?;
     let mut store = FileStore::new(rt);

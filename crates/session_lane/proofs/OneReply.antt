@@ -8,15 +8,14 @@ use Rattle.cal_schema.specs.declared.schema.Schema.{Schema}
 use Rattle.cal_value.specs.declared.value.Value.{Value}
 use Rattle.cal_value.specs.Equal.{row_eq}
 use Rattle.cal_value.specs.Order.{SameBag}
-use Rattle.cal_rel.specs.Info.{info_of}
 use Rattle.rule_hep.specs.Meaning.{Meaning}
 use Rattle.rule_hep.specs.Run.{hep_run}
 use Rattle.rule_hep.specs.Seen.{step_of}
 use Rattle.sql_algebra.specs.Algebra.{algebra}
-use Rattle.session_lane.specs.declared.answer.TheConstants.{HEP_LIMIT}
 use Rattle.session_lane.specs.declared.answer.Answer.{Answer}
-use Rattle.session_lane.specs.declared.answer.Planning.{Planning}
-use Rattle.session_lane.specs.Planned.{IsPlanned}
+use Rattle.select_planning.specs.declared.planning.TheConstants.{HEP_LIMIT}
+use Rattle.select_planning.specs.declared.planning.Planning.{Planning}
+use Rattle.select_planning.specs.Planned.{bare, IsPlanned}
 use Rattle.session_lane.specs.declared.reply.Cause.TheVariants.{Text}
 use Rattle.session_lane.specs.declared.reply.Reply.{Reply}
 use Rattle.session_lane.specs.declared.reply.Reply.TheVariants.{Rows, Refused}
@@ -155,29 +154,29 @@ none_some a e = Prim.cc
 same_bag : (schema : Schema) (db : Db) (s t : Select) (rows rows' : List (List Value)) → s ≡ t → IsAnswer s schema db rows → IsAnswer t schema db rows' → SameBag rows rows'
 same_bag schema db s t rows rows' e p q = λ r. p.bag r ∙ ap (λ (x : Select). count_by (row_eq r) (direct x schema db)) e ∙ sym (q.bag r)
 
-same_log : (rules : List Meaning) (schema : Schema) (s t : Select) (a b : Planning) → s ≡ t → IsPlanned rules schema s a → IsPlanned rules schema t b → map step_of a.hep.log ≡ map step_of b.hep.log
-same_log rules schema s t a b e p q = p.log ∙ ap (λ (x : Select). hep_run HEP_LIMIT rules (info_of schema [] []) (algebra schema x)) e ∙ sym q.log
+same_log : (rules : List Meaning) (budget : ℕ) (schema : Schema) (s t : Select) (a b : Planning) → s ≡ t → IsPlanned rules budget schema s a → IsPlanned rules budget schema t b → map step_of a.hep.log ≡ map step_of b.hep.log
+same_log rules budget schema s t a b e p q = p.hep.log ∙ ap (λ (x : Select). hep_run HEP_LIMIT rules (bare schema) (algebra schema x)) e ∙ sym q.hep.log
 
-same_rows : (rules : List Meaning) (schema : Schema) (db : Db) (s : Statement) (at at' : ℕ) (names names' : List (List ℕ)) (a b : Answer)
-    → IsAnswered rules schema db s at names a → IsAnswered rules schema db s at' names' b
+same_rows : (rules : List Meaning) (budget : ℕ) (schema : Schema) (db : Db) (s : Statement) (at at' : ℕ) (names names' : List (List ℕ)) (a b : Answer)
+    → IsAnswered rules budget schema db s at names a → IsAnswered rules budget schema db s at' names' b
     → (at ≡ at') × (names ≡ names') × SameBag a.rows b.rows × (map step_of a.planning.hep.log ≡ map step_of b.planning.hep.log)
-same_rows rules schema db s at at' names names' a b p q =
+same_rows rules budget schema db s at at' names names' a b p q =
     let select = select_same p.select q.select (sym p.is_select ∙ q.is_select) in
     let names_same : names ≡ names' = p.names_are ∙ ap (λ (x : Select). output_names (scope_of schema x) x.items) select ∙ sym q.names_are in (
       p.place ∙ sym q.place,
       names_same,
       same_bag schema db p.select q.select a.rows b.rows select p.rows_are q.rows_are,
-      same_log rules schema p.select q.select a.planning b.planning select p.planned q.planned,
+      same_log rules budget schema p.select q.select a.planning b.planning select p.planned q.planned,
     )
 
 same_refused : (at at' : Option ℕ) (a b : Refusal) → at ≡ None → at' ≡ None → a ≡ b → (at ≡ at') × (Text a ≡ Text b)
 same_refused at at' a b p q e = (p ∙ sym q, ap (λ (c : Refusal). Text c) e)
 
-same_answer : (rules : List Meaning) (schema : Schema) (db : Db) (s : Statement) (a b : Reply) → Answers rules schema db s a → Answers rules schema db s b → AreSameReplies a b
-same_answer rules schema db s (Rows at names answer) (Rows at' names' answer') p q = same_rows rules schema db s at at' names names' answer answer' p q
-same_answer rules schema db s (Rows at names answer) (Refused at' (Text c)) p q = absurd (none_some c (sym p.accepted ∙ q.1))
-same_answer rules schema db s (Refused at (Text c)) (Rows at' names' answer') p q = absurd (none_some c (sym q.accepted ∙ p.1))
-same_answer rules schema db s (Refused at (Text c)) (Refused at' (Text c')) p q = same_refused at at' c c' p.0 q.0 (some_same c c' (sym p.1 ∙ q.1))
+same_answer : (rules : List Meaning) (budget : ℕ) (schema : Schema) (db : Db) (s : Statement) (a b : Reply) → Answers rules budget schema db s a → Answers rules budget schema db s b → AreSameReplies a b
+same_answer rules budget schema db s (Rows at names answer) (Rows at' names' answer') p q = same_rows rules budget schema db s at at' names names' answer answer' p q
+same_answer rules budget schema db s (Rows at names answer) (Refused at' (Text c)) p q = absurd (none_some c (sym p.accepted ∙ q.1))
+same_answer rules budget schema db s (Refused at (Text c)) (Rows at' names' answer') p q = absurd (none_some c (sym q.accepted ∙ p.1))
+same_answer rules budget schema db s (Refused at (Text c)) (Refused at' (Text c')) p q = same_refused at at' c c' p.0 q.0 (some_same c c' (sym p.1 ∙ q.1))
 
 same_none : ReadOneWay → (text : List ℕ) (a b : Reply) → TellsNoStatement text a → TellsNoStatement text b → AreSameReplies a b
 same_none way text (Rows at names answer) b p q = absurd p
@@ -188,10 +187,10 @@ not_both : ReadOneWay → (text : List ℕ) (x : Statement) (b : Reply) → IsSt
 not_both way text x (Rows at names answer) p q = q
 not_both way text x (Refused at (Text c)) p q = never_both way text x c p q.1
 
-pub one_reply : ReadOneWay → (rules : List Meaning) (schema : Schema) (db : Db) (text : List ℕ) (a b : Reply) → IsReplyTo rules schema db text a → IsReplyTo rules schema db text b → AreSameReplies a b
-one_reply way rules schema db text a b (inl p) (inl q) =
+pub one_reply : ReadOneWay → (rules : List Meaning) (budget : ℕ) (schema : Schema) (db : Db) (text : List ℕ) (a b : Reply) → IsReplyTo rules budget schema db text a → IsReplyTo rules budget schema db text b → AreSameReplies a b
+one_reply way rules budget schema db text a b (inl p) (inl q) =
     let s = same_statement way text q.statement p.statement q.is_statement p.is_statement in
-    same_answer rules schema db p.statement a b p.answers (subst (λ (x : Statement). Answers rules schema db x b) s q.answers)
-one_reply way rules schema db text a b (inl p) (inr q) = absurd (not_both way text p.statement b p.is_statement q)
-one_reply way rules schema db text a b (inr p) (inl q) = absurd (not_both way text q.statement a q.is_statement p)
-one_reply way rules schema db text a b (inr p) (inr q) = same_none way text a b p q
+    same_answer rules budget schema db p.statement a b p.answers (subst (λ (x : Statement). Answers rules budget schema db x b) s q.answers)
+one_reply way rules budget schema db text a b (inl p) (inr q) = absurd (not_both way text p.statement b p.is_statement q)
+one_reply way rules budget schema db text a b (inr p) (inl q) = absurd (not_both way text q.statement a q.is_statement p)
+one_reply way rules budget schema db text a b (inr p) (inr q) = same_none way text a b p q

@@ -17,24 +17,24 @@ use Rattle.session_lane.specs.declared.answer.Answer.{Answer}
 use Rattle.session_lane.specs.declared.reply.Cause.TheVariants.{Text}
 use Rattle.session_lane.specs.declared.reply.Reply.{Reply}
 use Rattle.session_lane.specs.declared.reply.Reply.TheVariants.{Rows, Refused}
-use Rattle.session_lane.specs.Planned.{IsPlanned}
+use Rattle.select_planning.specs.Planned.{IsPlanned}
 use Rattle.session_lane.specs.Statements.{IsNoStatement, refusal}
 
 -- The statement is a SELECT without a cause of refusal; the names are those of its columns, the rows an answer to it, and it is planned by
 -- these rules.
-pub record IsAnswered (rules : List Meaning) (schema : Schema) (db : Db) (statement : Statement) (at : ℕ) (names : List (List ℕ)) (answer : Answer) : Type 0 where
+pub record IsAnswered (rules : List Meaning) (budget : ℕ) (schema : Schema) (db : Db) (statement : Statement) (at : ℕ) (names : List (List ℕ)) (answer : Answer) : Type 0 where
   pub select : Select
   pub is_select : statement ≡ SelectOf select
   pub accepted : refusal schema statement ≡ None
   pub place : at ≡ 0
   pub names_are : names ≡ output_names (scope_of schema select) select.items
   pub rows_are : IsAnswer select schema db answer.rows
-  pub planned : IsPlanned rules schema select answer.planning
+  pub planned : IsPlanned rules budget schema select answer.planning
 
 -- the reply to a statement
-abbrev pub Answers : List Meaning → Schema → Db → Statement → Reply → Type 0
-Answers rules schema db statement (Rows at names answer) = IsAnswered rules schema db statement at names answer
-Answers rules schema db statement (Refused at (Text cause)) = (at ≡ None) × (refusal schema statement ≡ Some cause)
+abbrev pub Answers : List Meaning → ℕ → Schema → Db → Statement → Reply → Type 0
+Answers rules budget schema db statement (Rows at names answer) = IsAnswered rules budget schema db statement at names answer
+Answers rules budget schema db statement (Refused at (Text cause)) = (at ≡ None) × (refusal schema statement ≡ Some cause)
 
 -- the reply tells why the text is no statement
 abbrev pub TellsNoStatement : List ℕ → Reply → Type 0
@@ -42,14 +42,14 @@ TellsNoStatement text (Rows at names answer) = ⊥
 TellsNoStatement text (Refused at (Text cause)) = (at ≡ None) × IsNoStatement text cause
 
 -- the text is a statement, and the reply is one to it
-pub record AnswersText (rules : List Meaning) (schema : Schema) (db : Db) (text : List ℕ) (reply : Reply) : Type 0 where
+pub record AnswersText (rules : List Meaning) (budget : ℕ) (schema : Schema) (db : Db) (text : List ℕ) (reply : Reply) : Type 0 where
   pub statement : Statement
   pub is_statement : IsStatement text statement
-  pub answers : Answers rules schema db statement reply
+  pub answers : Answers rules budget schema db statement reply
 
 -- the reply to a text, planned by these rules
-abbrev pub IsReplyTo : List Meaning → Schema → Db → List ℕ → Reply → Type 0
-IsReplyTo rules schema db text reply = AnswersText rules schema db text reply ⊎ TellsNoStatement text reply
+abbrev pub IsReplyTo : List Meaning → ℕ → Schema → Db → List ℕ → Reply → Type 0
+IsReplyTo rules budget schema db text reply = AnswersText rules budget schema db text reply ⊎ TellsNoStatement text reply
 
 -- the same refusal, or the same rows under the same names by the same steps: each row as often, in any order
 abbrev pub AreSameReplies : Reply → Reply → Type 0

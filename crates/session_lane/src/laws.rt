@@ -11,8 +11,8 @@ use sql_text::each_text_reads_one_way;
 
 /// Two right replies to a text over a schema and its tables, planned by the same rules, are the same up to the order of rows.
 pub fn one_reply_is_right()
-    ensures { (rules : ListOf Meaning) (schema : Schema) (db : Db) (text : ListOf ℕ) (a b : Reply)
-        → IsReplyTo rules schema db text a → IsReplyTo rules schema db text b
+    ensures { (rules : ListOf Meaning) (budget : ℕ) (schema : Schema) (db : Db) (text : ListOf ℕ) (a b : Reply)
+        → IsReplyTo rules budget schema db text a → IsReplyTo rules budget schema db text b
         → AreSameReplies a b }
 {
     each_text_reads_one_way();

@@ -6,7 +6,7 @@ mod laws;
 mod reply;
 mod statement;
 
-pub use answer::{Answer, HEP_LIMIT, Planning, answer_select};
+pub use answer::{Answer, answer_select};
 pub use laws::one_reply_is_right;
 pub use reply::{Cause, Reply};
 pub use statement::reply_to;

@@ -85,15 +85,16 @@ fn reply_to_accepted(
     schema: &Schema,
     snapshot: &Snapshot,
     rules: &[Box<dyn Rule>],
+    budget: u32,
 ) -> Result<Reply, NoMemory>
     requires formed { IsFormed made.select }
     requires checked { IsChecked schema.now 0 made.select made }
     requires valid { IsValidSchema schema.now }
     requires fits { Fits (record { tables = snapshot.now.tables }) schema.now }
-    ensures { IfOk result (Answers (map (λ b. meaning b) rules.now) schema.now
+    ensures { IfOk result (Answers (map (λ b. meaning b) rules.now) budget schema.now
         (record { tables = snapshot.now.tables }) (SelectOf made.select)) }
 {
-    let answer = answer_select(alloc, &made, schema, snapshot, rules)?;
+    let answer = answer_select(alloc, &made, schema, snapshot, rules, budget)?;
     Ok(Reply::Rows {
         at: 0,
         names: made.names,
@@ -107,15 +108,16 @@ fn reply_to_select(
     schema: &Schema,
     snapshot: &Snapshot,
     rules: &[Box<dyn Rule>],
+    budget: u32,
 ) -> Result<Reply, NoMemory>
     requires formed { IsFormed select }
     requires valid { IsValidSchema schema.now }
     requires fits { Fits (record { tables = snapshot.now.tables }) schema.now }
-    ensures { IfOk result (Answers (map (λ b. meaning b) rules.now) schema.now
+    ensures { IfOk result (Answers (map (λ b. meaning b) rules.now) budget schema.now
         (record { tables = snapshot.now.tables }) (SelectOf select)) }
 {
     match validate(alloc, Statement::Select(select), schema) {
-        Ok(made) => reply_to_accepted(alloc, select_of(made), schema, snapshot, rules),
+        Ok(made) => reply_to_accepted(alloc, select_of(made), schema, snapshot, rules, budget),
         Err(cause) => refused(cause),
     }
 }
@@ -126,15 +128,18 @@ fn reply_to_statement(
     schema: &Schema,
     snapshot: &Snapshot,
     rules: &[Box<dyn Rule>],
+    budget: u32,
 ) -> Result<Reply, NoMemory>
     requires formed { IsFormedStatement statement }
     requires valid { IsValidSchema schema.now }
     requires fits { Fits (record { tables = snapshot.now.tables }) schema.now }
-    ensures { IfOk result (Answers (map (λ b. meaning b) rules.now) schema.now
+    ensures { IfOk result (Answers (map (λ b. meaning b) rules.now) budget schema.now
         (record { tables = snapshot.now.tables }) statement) }
 {
     match statement {
-        Statement::Select(select) => reply_to_select(alloc, select, schema, snapshot, rules),
+        Statement::Select(select) => reply_to_select(
+            alloc, select, schema, snapshot, rules, budget,
+        ),
         Statement::ExplainPlan(_) => refused(Refusal::NotYet),
         Statement::ExplainMemo(_) => refused(Refusal::NotYet),
         Statement::Insert { .. } => refused(Refusal::NotAQuery),
@@ -146,21 +151,23 @@ fn reply_to_statement(
 }
 
 /// The reply to a text: rows where it is a SELECT that is answered, and otherwise the first cause why it isn't. The schema
-/// is valid, and the tables of the snapshot fit it. The SELECT is planned by the rules, which come in the order of the list.
+/// is valid, and the tables of the snapshot fit it. The SELECT is planned by the rules, which come in the order of the
+/// list, with at most `budget` firings.
 pub fn reply_to(
     alloc: Global,
     text: &str,
     schema: &Schema,
     snapshot: &Snapshot,
     rules: &[Box<dyn Rule>],
+    budget: u32,
 ) -> Result<Reply, NoMemory>
     requires valid { IsValidSchema schema.now }
     requires fits { Fits (record { tables = snapshot.now.tables }) schema.now }
-    ensures { IfOk result (IsReplyTo (map (λ b. meaning b) rules.now) schema.now
+    ensures { IfOk result (IsReplyTo (map (λ b. meaning b) rules.now) budget schema.now
         (record { tables = snapshot.now.tables }) (chars text.now)) }
 {
     match statement_of(alloc, text) {
-        Ok(statement) => reply_to_statement(alloc, statement, schema, snapshot, rules),
+        Ok(statement) => reply_to_statement(alloc, statement, schema, snapshot, rules, budget),
         Err(cause) => refused(cause),
     }
 }

@@ -18,7 +18,7 @@ use cal_value::{Agg, Collation, List, NoMemory, Op, Row, Value};
 use rule_hep::{HepRecord, HepStep, Rule, hep};
 use rules_filter::{FilterAggregateTranspose, FilterIntoJoin, FilterMerge, FilterProjectTranspose};
 use rules_project::{ProjectMerge, ProjectRemove, PruneEmpty, ReduceExpressions};
-use session_lane::HEP_LIMIT;
+use select_planning::HEP_LIMIT;
 use sql_parser::parse;
 use sql_text::{Token, tokens};
 use sql_translate::translate;
@@ -323,7 +323,7 @@ fn rewritten_text(
     }
 }
 
-#[tactic(auto, using(session_lane::proofs::Answered::planned_rules))]
+#[tactic(auto, using(select_planning::proofs::Kept::select_rules))]
 fn translated_text(
     alloc: Global,
     made: &CheckedSelect,
