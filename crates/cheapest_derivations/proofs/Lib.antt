@@ -1,0 +1,4 @@
+pub mod Sound
+pub mod Least
+pub mod RoundSteps
+pub mod WithinSteps
