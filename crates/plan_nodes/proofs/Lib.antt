@@ -1,0 +1,4 @@
+pub mod Digits
+pub mod OrderSteps
+pub mod OrderLemmas
+pub mod PlanLemmas

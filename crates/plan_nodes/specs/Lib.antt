@@ -1,0 +1,5 @@
+pub mod Conventions
+pub mod Weights
+pub mod Orders
+pub mod PlanTrees
+pub mod Seen
