@@ -1,0 +1,4 @@
+mod found;
+mod members;
+mod run;
+mod worked;
