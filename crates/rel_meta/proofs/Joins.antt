@@ -1,10 +1,9 @@
 -- What joins keep of sides of which each key has at most one row.
-use Rattle.std.proofs.Common.{◌≡◌, ℕ, zero, suc, ◌+◌, ◌<◌, ◌≤◌, nat_lt, Bool, true, false, cond, List, [], ◌∷◌, ◌++◌, map, filter, take, drop, length, replicate, All, refl, sym, ◌∙◌, ap, ap₂, subst, arith}
+use Rattle.std.proofs.Common.{◌≡◌, ℕ, zero, suc, ◌+◌, ◌<◌, ◌≤◌, nat_lt, Bool, true, false, cond, List, [], ◌∷◌, ◌++◌, map, take, drop, length, replicate, All, refl, sym, ◌∙◌, ap, ap₂, subst, arith}
 use Rattle.std.specs.List.{flat_map}
 use Rattle.std.proofs.Math.Seq.{take-append_seam, drop-append_seam}
 use Rattle.std.proofs.lemmas.Bool.Decides.{nat_tests}
 use Rattle.std.proofs.lemmas.List.{length-map, map-append}
-use Rattle.std.proofs.lemmas.List.Elements.{All-nil, All-cons, All-head, All-tail, All-append, All-map, All-weaker}
 use Rattle.cal_value.specs.declared.value.Value.{Value}
 use Rattle.cal_value.specs.declared.value.Value.TheVariants.{Null}
 use Rattle.cal_value.specs.Equal.{row_eq}
@@ -15,8 +14,7 @@ use Rattle.cal_schema.specs.declared.join_kind.JoinKind.{JoinKind}
 use Rattle.cal_schema.specs.declared.join_kind.JoinKind.TheVariants.{Inner, Left}
 use Rattle.cal_rel.specs.Operators.{Row, holds, partners, or_alone, joined}
 use Rattle.cal_rel.specs.Typing.{pairs_of}
-use Rattle.cal_rel.proofs.Keys.{one-passes, length-partners, turned, few-by_right, HasKey, right-apart, left-apart}
-use Rattle.cal_rel.proofs.Reorders.{map-map}
+use Rattle.cal_rel.proofs.Keys.{one-passes, turned, HasKey, right-apart, left-apart}
 use Rattle.cal_rel.proofs.Totals.{total, total-filter, total-map, total-flat_map}
 use Rattle.rel_meta.specs.Keys.{shifted}
 use Rattle.rel_meta.proofs.Once.{total-le, total-each, one-le, cond-le, times, AtMostOnce}

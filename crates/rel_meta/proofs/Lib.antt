@@ -3,3 +3,4 @@ pub mod OnceNodes
 pub mod Joins
 pub mod UniqueKeys
 pub mod KeySteps
+pub mod CountSteps

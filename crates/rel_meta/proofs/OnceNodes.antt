@@ -1,6 +1,6 @@
 -- What nodes over one input keep of rows of which each key has at most one, and the keys of groups.
-use Rattle.std.proofs.Common.{◌≡◌, ℕ, zero, suc, ◌+◌, ◌≤◌, Bool, true, false, cond, not, ◌==◌, List, [], ◌∷◌, ◌++◌, map, filter, length, All, Option, Some, None, get_or, slice_get, unwrap_or, option_map, refl, sym, ◌∙◌, ap, ap₂, subst, arith}
-use Rattle.std.specs.Prelude.{filter_map, position}
+use Rattle.std.proofs.Common.{◌≡◌, ℕ, zero, suc, ◌+◌, ◌≤◌, Bool, true, false, cond, not, ◌==◌, List, [], ◌∷◌, ◌++◌, map, filter, length, All, Option, Some, None, get_or, unwrap_or, option_map, refl, sym, ◌∙◌, ap, ap₂, subst, arith}
+use Rattle.std.specs.Prelude.{filter_map}
 use Rattle.std.specs.List.{range_with_len, cons_option}
 use Rattle.std.specs.Option.{option_map_or}
 use Rattle.std.specs.Ordering.{is_le}
@@ -21,12 +21,11 @@ use Rattle.cal_expr.specs.declared.expr.Expr.TheVariants.{Literal}
 use Rattle.cal_expr.specs.Meaning.{meaning_of}
 use Rattle.cal_rel.specs.Operators.{Row, projected, same_key, by_key, grouped}
 use Rattle.cal_rel.specs.Tiles.{inserted, sorted}
-use Rattle.cal_rel.specs.Typing.{equated}
 use Rattle.cal_rel.proofs.Keys.{Apart, Apart-filter, Apart-weaker, NotBoth, one-passes, condition-says}
 use Rattle.cal_rel.proofs.RowLemmas.{of_both-some}
 use Rattle.cal_rel.proofs.Totals.{total, total-filter, total-map, total-ext}
 use Rattle.rel_meta.specs.Keys.{first_columns, column_in, is_column, place_of, each_of}
-use Rattle.rel_meta.proofs.Once.{total-each, at-most-one, cond-le, times, AtMostOnce}
+use Rattle.rel_meta.proofs.Once.{total-each, at-most-one, cond-le, AtMostOnce}
 
 -- ---- filters, maps, no rows and one
 

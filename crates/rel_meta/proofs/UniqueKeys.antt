@@ -1,5 +1,5 @@
 -- Each unique key that is found of a well-formed tree has at most one row of each value; other sets change no key.
-use Rattle.std.proofs.Common.{◌≡◌, ◌≢◌, ℕ, Bool, true, false, cond, List, [], ◌∷◌, ◌++◌, map, filter, length, All, AllPairs, Option, Some, None, slice_get, refl, sym, ◌∙◌, ap, ap₂, subst}
+use Rattle.std.proofs.Common.{◌≡◌, ◌≢◌, ℕ, Bool, true, false, List, [], ◌∷◌, ◌++◌, map, filter, length, All, AllPairs, Option, Some, None, slice_get, refl, sym, ◌∙◌, ap, ap₂}
 use Rattle.std.specs.Prelude.{option_map, unwrap_or}
 use Rattle.std.specs.List.{flat_map}
 use Rattle.std.specs.Option.{option_map_or}
@@ -15,7 +15,7 @@ use Rattle.cal_schema.specs.declared.schema.Schema.{Schema}
 use Rattle.cal_schema.specs.declared.table.TableDef.{TableDef}
 use Rattle.cal_schema.specs.declared.tile.TileInfo.{TileInfo}
 use Rattle.cal_schema.specs.declared.tile.TileKey.{TileKey}
-use Rattle.cal_schema.specs.Fits.{key_of, AreFilledBy, Fits}
+use Rattle.cal_schema.specs.Fits.{Fits}
 use Rattle.cal_schema.specs.Valid.{IsValidSchema}
 use Rattle.cal_rel.specs.Bag.{bag, width, leaf_bag, unary_bag, binary_bag, rows_of_tile}
 use Rattle.cal_rel.specs.Holes.{renumbered, Narrows}
