@@ -1,0 +1,4 @@
+mod orders;
+mod plans;
+mod weights;
+mod words;
