@@ -1,0 +1,4 @@
+pub mod Bags
+pub mod Memos
+pub mod WellFormed
+pub mod Examples
