@@ -9,14 +9,15 @@ use cal_value::{NoMemory, SqlText};
 use csv_tables::{CsvCause, CsvFault};
 use itoa::Buffer;
 
-fn push_text(out: &mut String, text: &str) -> Result<(), NoMemory>
+/// Adds a text.
+pub fn push_text(out: &mut String, text: &str) -> Result<(), NoMemory>
     ensures { OnOk result (string_bytes out.new ≡ string_bytes out.old ++ text.now) }
 {
     out.push_str(text)?;
     Ok(())
 }
 
-fn push_count(out: &mut String, count: u64) -> Result<(), NoMemory>
+fn push_count(out: &mut String, count: u128) -> Result<(), NoMemory>
     ensures { OnOk result (string_bytes out.new ≡ string_bytes out.old ++ decimal count) }
 {
     let mut buffer = Buffer::new();
@@ -24,8 +25,8 @@ fn push_count(out: &mut String, count: u64) -> Result<(), NoMemory>
     Ok(())
 }
 
-// A word and a number behind it.
-fn push_counted(out: &mut String, text: &str, count: u64) -> Result<(), NoMemory>
+/// Adds a text and a number behind it.
+pub fn push_counted(out: &mut String, text: &str, count: u128) -> Result<(), NoMemory>
     ensures { OnOk result (string_bytes out.new ≡ string_bytes out.old ++ (text.now ++ decimal count)) }
 {
     push_text(out, text)?;
@@ -68,7 +69,7 @@ fn push_numbered(out: &mut String, text: &str, number: i128) -> Result<(), NoMem
 fn push_misfit(out: &mut String, place: u64, lo: i128, hi: i128) -> Result<(), NoMemory>
     ensures { OnOk result (string_bytes out.new ≡ string_bytes out.old ++ spec.misfit_text place lo hi) }
 {
-    push_counted(out, "MayNotFit place ", place)?;
+    push_counted(out, "MayNotFit place ", place as u128)?;
     push_numbered(out, " lo ", lo)?;
     push_numbered(out, " hi ", hi)
 }
@@ -76,8 +77,8 @@ fn push_misfit(out: &mut String, place: u64, lo: i128, hi: i128) -> Result<(), N
 fn push_bad_row(out: &mut String, row: u64, column: u32) -> Result<(), NoMemory>
     ensures { OnOk result (string_bytes out.new ≡ string_bytes out.old ++ spec.bad_row_text row column) }
 {
-    push_counted(out, "BadRow row ", row)?;
-    push_counted(out, " column ", column as u64)
+    push_counted(out, "BadRow row ", row as u128)?;
+    push_counted(out, " column ", column as u128)
 }
 
 /// Adds the text of a cause: its name, then each field with its name and its value.
@@ -85,10 +86,10 @@ pub fn push_refusal(out: &mut String, refusal: &Refusal) -> Result<(), NoMemory>
     ensures { OnOk result (string_bytes out.new ≡ string_bytes out.old ++ spec.refusal_text refusal.now) }
 {
     match refusal {
-        Refusal::NotToken { at } => push_counted(out, "NotToken at ", *at),
-        Refusal::TooDeep { limit } => push_counted(out, "TooDeep limit ", *limit as u64),
+        Refusal::NotToken { at } => push_counted(out, "NotToken at ", *at as u128),
+        Refusal::TooDeep { limit } => push_counted(out, "TooDeep limit ", *limit as u128),
         Refusal::TooManyOperators { limit } => {
-            push_counted(out, "TooManyOperators limit ", *limit as u64)
+            push_counted(out, "TooManyOperators limit ", *limit as u128)
         }
         Refusal::NotSql => push_text(out, "NotSql"),
         Refusal::NotAQuery => push_text(out, "NotAQuery"),
@@ -96,16 +97,16 @@ pub fn push_refusal(out: &mut String, refusal: &Refusal) -> Result<(), NoMemory>
         Refusal::UnknownTable { name } => push_named(out, "UnknownTable name ", name),
         Refusal::UnknownLattice { name } => push_named(out, "UnknownLattice name ", name),
         Refusal::TooManyTables { limit } => {
-            push_counted(out, "TooManyTables limit ", *limit as u64)
+            push_counted(out, "TooManyTables limit ", *limit as u128)
         }
         Refusal::UnknownColumn { name } => push_named(out, "UnknownColumn name ", name),
         Refusal::Ambiguous { name } => push_named(out, "Ambiguous name ", name),
-        Refusal::TypeClash { place } => push_counted(out, "TypeClash place ", *place),
+        Refusal::TypeClash { place } => push_counted(out, "TypeClash place ", *place as u128),
         Refusal::AggregateMisplaced { place } => {
-            push_counted(out, "AggregateMisplaced place ", *place)
+            push_counted(out, "AggregateMisplaced place ", *place as u128)
         }
-        Refusal::NotGrouped { place } => push_counted(out, "NotGrouped place ", *place),
-        Refusal::OrderKey { place } => push_counted(out, "OrderKey place ", *place),
+        Refusal::NotGrouped { place } => push_counted(out, "NotGrouped place ", *place as u128),
+        Refusal::OrderKey { place } => push_counted(out, "OrderKey place ", *place as u128),
         Refusal::MayNotFit { place, lo, hi } => push_misfit(out, *place, *lo, *hi),
         Refusal::BadRow { row, column } => push_bad_row(out, *row, *column),
         Refusal::NotRefreshable => push_text(out, "NotRefreshable"),
@@ -147,8 +148,8 @@ fn push_csv_bad(
 ) -> Result<(), NoMemory>
     ensures { OnOk result (string_bytes out.new ≡ string_bytes out.old ++ spec.csv_bad_text at_record column cause) }
 {
-    push_counted(out, "CsvBad record ", at_record)?;
-    push_counted(out, " column ", column as u64)?;
+    push_counted(out, "CsvBad record ", at_record as u128)?;
+    push_counted(out, " column ", column as u128)?;
     push_cause(out, cause)
 }
 
@@ -162,7 +163,7 @@ pub fn push_csv_fault(out: &mut String, fault: &CsvFault) -> Result<(), NoMemory
             column,
             cause,
         } => push_csv_bad(out, *at_record, *column, *cause),
-        CsvFault::TableFull { limit } => push_counted(out, "TableFull limit ", *limit),
+        CsvFault::TableFull { limit } => push_counted(out, "TableFull limit ", *limit as u128),
         CsvFault::NoMemory => push_text(out, "NoMemory"),
     }
 }

@@ -88,7 +88,8 @@ pub(crate) fn push_number(out: &mut String, number: i128) -> Result<(), NoMemory
     Ok(())
 }
 
-fn push_value(out: &mut String, value: &Value) -> Result<(), NoMemory>
+/// Adds a value: NULL, TRUE, FALSE, decimal digits behind `-` where it is negative, or a text in quotes.
+pub fn push_value(out: &mut String, value: &Value) -> Result<(), NoMemory>
     ensures { OnOk result (string_bytes out.new ≡ string_bytes out.old ++ spec.value_text value.now) }
 {
     match value {

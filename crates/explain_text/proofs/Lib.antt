@@ -1,0 +1,3 @@
+mod MemoSteps
+mod PlanSteps
+mod RelSteps

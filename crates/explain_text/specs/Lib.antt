@@ -1,0 +1,4 @@
+pub mod Expressions
+pub mod Details
+pub mod Plans
+pub mod Memos

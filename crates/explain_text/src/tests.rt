@@ -1,0 +1,4 @@
+mod expressions;
+mod memos;
+mod plans;
+mod trees;
