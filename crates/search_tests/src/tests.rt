@@ -1,3 +1,4 @@
+mod filter_below;
 mod found;
 mod members;
 mod run;

@@ -1,4 +1,5 @@
 //! How many sets, members and firings a search has, and whether it is complete.
+use crate::tests::filter_below::FilterBelow;
 use crate::tests::members::two_tables_have;
 use crate::tests::run::{is_answered, planned};
 use crate::tests::worked::first_wrong_of_one_firing;
@@ -102,9 +103,23 @@ fn found(
     }
 }
 
+// By a rule that is never done: a search that the budget stops, and one that the limit of members stops.
+const ENDLESS: &[Row] = &[
+    (
+        "SELECT A FROM T",
+        "100",
+        "root 1 sets 102 members 202 firings 100 stopped",
+    ),
+    (
+        "SELECT A FROM T",
+        "20000",
+        "root 1 sets 513 members 1024 firings 511 stopped",
+    ),
+];
+
 // The first statement of which something else is found, with what is found; empty where there is none.
-fn first_wrong(alloc: Global, rules: &[Box<dyn Rule>]) -> Result<String, NoMemory> {
-    for (sql, budget, wanted) in FOUND {
+fn first_wrong(alloc: Global, table: &[Row], rules: &[Box<dyn Rule>]) -> Result<String, NoMemory> {
+    for (sql, budget, wanted) in table {
         let found = found(alloc, *sql, *budget, rules)?;
         if found.as_str() != *wanted {
             return Ok(found);
@@ -187,11 +202,20 @@ fn finds_what_there_is(rt: HostRuntime) -> Result<(), Fail> {
         Box::new(alloc, JoinCommute::new())?,
         Box::new(alloc, JoinAssociate::new())?,
     ];
-    let wrong = first_wrong(alloc, &rules)?;
+    let wrong = first_wrong(alloc, FOUND, &rules)?;
     assert_eq!(rt; wrong.as_str(), "");
     assert!(rt; two_tables_fire(alloc, &rules)?);
     assert!(rt; answer_the_same(alloc, &rules)?);
     assert!(rt; two_tables_have(alloc, &rules)?);
     assert_eq!(rt; first_wrong_of_one_firing(alloc, &rules)?, "");
+    Ok(())
+}
+
+#[test]
+fn stops_at_the_limits(rt: HostRuntime) -> Result<(), Fail> {
+    let alloc = rt.alloc();
+    let rules: [Box<dyn Rule>; 1] = [Box::new(alloc, FilterBelow::new())?];
+    let wrong = first_wrong(alloc, ENDLESS, &rules)?;
+    assert_eq!(rt; wrong.as_str(), "");
     Ok(())
 }
