@@ -1,1 +1,2 @@
 pub mod RangeSteps
+pub mod PartLemmas
