@@ -1,0 +1,9 @@
+pub mod Rising
+pub mod UpTo
+pub mod Projects
+pub mod Joins
+pub mod Groups
+pub mod Tiles
+pub mod Keys
+pub mod Widths
+pub mod Nodes
