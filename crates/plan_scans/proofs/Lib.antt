@@ -1,0 +1,4 @@
+pub mod Requests
+pub mod Chained
+pub mod Kept
+pub mod Held
