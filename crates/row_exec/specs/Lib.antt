@@ -1,0 +1,5 @@
+pub mod Examples
+pub mod Nodes
+pub mod Ready
+pub mod Run
+pub mod Split
