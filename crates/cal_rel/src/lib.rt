@@ -13,6 +13,3 @@ pub use info::PlanInfo;
 pub use pairs::pairs_of;
 pub use rel::Rel;
 pub use typing::type_of;
-
-#[cfg(test)]
-mod tests;

@@ -30,6 +30,3 @@ pub use order::{Collation, KeyOrder, compare, compare_rows, compare_values};
 pub use steps::Steps;
 pub use text::{SqlText, TextFault, characters, push_characters};
 pub use value::{Row, Value, copy_row, value_at, values_at};
-
-#[cfg(test)]
-mod tests;

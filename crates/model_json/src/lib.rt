@@ -11,6 +11,3 @@ pub use draft::{Draft, Drafts};
 pub use model::{Model, ModelDoc, read_model, resolve};
 pub use model_fields::{ModelCause, ModelFault};
 pub use source::{TableSource, sources};
-
-#[cfg(test)]
-mod tests;

@@ -13,6 +13,3 @@ pub use forms::{are_different, is_tests};
 pub use space::Space;
 pub use spelled::ways_of;
 pub use ways::{Ask, Want, Way, fits};
-
-#[cfg(test)]
-mod tests;

@@ -17,6 +17,3 @@ pub use orders::{
 pub use plan::{Plan, cost, plan_reads};
 pub use traits::{Convention, Traits, convention_of, satisfies};
 pub use weights::{COST_LIMIT, weight};
-
-#[cfg(test)]
-mod tests;

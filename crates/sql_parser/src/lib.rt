@@ -10,6 +10,3 @@ mod statement;
 pub use laws::printed_text_spells_the_statement;
 pub use parser::{one_statement, parse};
 pub use sql_expressions::ParseFault;
-
-#[cfg(test)]
-mod tests;

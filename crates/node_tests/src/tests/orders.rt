@@ -1,9 +1,9 @@
 //! The orders that nodes and plans give, and those of their inputs that they take.
 use crate::tests::words::{Key, node, order_of, plans_of};
-use crate::{Convention, Traits, below, delivers, gives};
 use cal_rel::PlanInfo;
 use cal_schema::{AdapterKind, ColumnDef, Schema, TableDef};
 use cal_value::{Collation, List, NoMemory, SqlText, SqlType};
+use plan_nodes::{Convention, Traits, below, delivers, gives};
 use std::alloc::Global;
 use std::test::Fail;
 

@@ -1,4 +1,4 @@
-use Rattle.cal_value.proofs.tests.steps_are_counted.Given as goal
+use Rattle.value_tests.proofs.tests.steps_are_counted.Given as goal
 
 abbrev pub ghosts-three_steps : goal.ghosts-three_steps
 ghosts-three_steps g a = record { name = a.blank.name; parts = a.blank.parts }

@@ -1,8 +1,8 @@
 //! Nodes by their names, and plans as words: the inputs of a node, then the node.
-use crate::{Plan, PlanNode};
 use cal_expr::{Expr, Op};
 use cal_schema::JoinKind;
 use cal_value::{Collation, KeyOrder, List, NoMemory};
+use plan_nodes::{Plan, PlanNode};
 use sqlite_items::Items;
 use std::alloc::Global;
 

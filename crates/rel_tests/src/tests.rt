@@ -1,5 +1,5 @@
-use crate::{AggCall, JoinKind, PlanInfo, Rel, RelType, StarPair, pairs_of, type_of};
 use cal_expr::Expr;
+use cal_rel::{AggCall, JoinKind, PlanInfo, Rel, RelType, StarPair, pairs_of, type_of};
 use cal_schema::{AdapterKind, ColumnDef, Measure, Schema, TableDef, TileInfo, TileKey};
 use cal_value::{Agg, Duplicate, Interval, List, NUMBER_LIMIT, NoMemory, Op, SqlText, SqlType};
 use std::alloc::Global;

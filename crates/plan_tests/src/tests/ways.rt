@@ -1,4 +1,3 @@
-use crate::{Alternative, Ask, Space, State, Want, Way, alternatives_of, same_state, ways_of};
 use cal_expr::Expr;
 use cal_rel::{AggCall, JoinKind, PlanInfo, Rel, RelType};
 use cal_schema::{AdapterKind, Schema, TableDef, TileInfo, TileKey};
@@ -6,6 +5,7 @@ use cal_value::{
     Collation, Duplicate, Interval, KeyOrder, List, NoMemory, Op, SqlText, SqlType, Value,
 };
 use memo_sets::Member;
+use phys_plan::{Alternative, Ask, Space, State, Want, Way, alternatives_of, same_state, ways_of};
 use plan_nodes::PlanNode;
 use std::alloc::Global;
 use std::test::Fail;

@@ -1,6 +1,6 @@
 ghost use Rattle.std.specs.Prelude.{◌≡◌, IsTrue};
 
-use crate::{
+use cal_value::{
     Duplicate, Interval, KeyOrder, Kind, List, NUMBER_LIMIT, NoMemory, Row, SqlText, SqlType,
     Steps, TEXT_LIMIT, TextFault, Value, and3, characters, compare, compare_rows, copy_row,
     cut_at_limit, cut_product, has_types, is_in_order, not3, or3, push_characters, same_bag,

@@ -1,7 +1,7 @@
 //! What plans cost and read, and which traits satisfy others.
 use crate::tests::words::{Key, order_of, plans_of};
-use crate::{Convention, Traits, cost, plan_reads, satisfies};
 use cal_value::NoMemory;
+use plan_nodes::{Convention, Traits, cost, plan_reads, satisfies};
 use std::alloc::Global;
 use std::test::Fail;
 

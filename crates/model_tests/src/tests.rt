@@ -1,9 +1,9 @@
 ghost use Rattle.std.specs.Prelude.{◌≤◌, [], ◌∷◌, length, IfOk};
 ghost use Rattle.model_json.specs.ModelOf.{AreShort};
 
-use crate::{Model, ModelFault, TableSource, read_model, resolve, sources};
 use cal_schema::{AdapterKind, ColumnDef};
 use cal_value::{COLUMN_LIMIT, List, NoMemory, Row, SqlText, Value};
+use model_json::{Model, ModelFault, TableSource, read_model, resolve, sources};
 use std::alloc::Global;
 use std::test::Fail;
 

@@ -1,7 +1,7 @@
 //! What nodes weigh.
 use crate::tests::words::node;
-use crate::{PlanNode, weight};
 use cal_value::NoMemory;
+use plan_nodes::{PlanNode, weight};
 use std::alloc::Global;
 use std::test::Fail;
 

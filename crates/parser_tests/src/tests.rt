@@ -1,5 +1,5 @@
-use crate::{ParseFault, one_statement, parse, printed_text_spells_the_statement};
 use cal_value::{Duplicate, List, NoMemory};
+use sql_parser::{ParseFault, one_statement, parse, printed_text_spells_the_statement};
 use sql_printer::print_statement;
 use sql_text::tokens;
 use sql_tree::{Cond, How, Items, Select, Statement, Tree};

@@ -1,0 +1,5 @@
+//! Tables of plans' nodes: their orders, traits, weights and costs.
+#![tactic(auto)]
+
+#[cfg(test)]
+mod tests;

@@ -1,0 +1,5 @@
+//! Tables of statements: what the parser makes of them, and what it refuses.
+#![tactic(auto)]
+
+#[cfg(test)]
+mod tests;
