@@ -1,3 +1,4 @@
+pub mod Passes
 pub mod Runs
 pub mod SameRows
 pub mod Sizes

@@ -1,19 +1,23 @@
--- The plan of the tests can be run.
-use Rattle.std.proofs.Common.{◌≡◌, ℕ, pos, List, [], ◌∷◌, false, length, map, Option, Some, ◌∙◌, refl, sym, ap, subst, arith}
+-- The plan and the passes of the tests can be run.
+use Rattle.std.proofs.Common.{◌≡◌, ℕ, pos, List, [], ◌∷◌, false, length, map, All, IfSome, IsSome, Option, Some, None, ◌∙◌, refl, sym, ap, subst, arith}
 use Rattle.std.specs.Int.Signed.{≤ℤ_refl}
-use Rattle.std.proofs.lemmas.List.Elements.{All-nil, All-cons}
+use Rattle.std.proofs.lemmas.List.Elements.{All-nil, All-cons, All-weaker}
 use Rattle.cal_value.specs.declared.kind.Kind.TheVariants.{Integer}
 use Rattle.cal_value.specs.declared.kind.SqlType.{SqlType}
 use Rattle.cal_value.specs.declared.value.Value.TheVariants.{Int}
 use Rattle.cal_value.specs.Types.{HasTypes}
 use Rattle.cal_aggregate.specs.ResultType.{counts}
+use Rattle.cal_expr.specs.declared.expr.Expr.{Expr}
+use Rattle.cal_expr.specs.Typing.{type_of}
+use Rattle.cal_expr.specs.WellFormed as expressions
 use Rattle.cal_schema.specs.declared.agg_call.AggCall.{AggCall}
 use Rattle.cal_schema.specs.declared.database.Db.{Db}
 use Rattle.cal_schema.specs.declared.rel_type.RelType.{RelType}
 use Rattle.cal_schema.specs.declared.schema.Schema.{Schema}
 use Rattle.cal_rel.specs.Info.{Info}
 use Rattle.cal_rel.specs.Operators.{Row}
-use Rattle.cal_snapshot.specs.Parts.{Parts, start_of}
+use Rattle.cal_snapshot.specs.declared.part.Part.TheVariants.{Table}
+use Rattle.cal_snapshot.specs.Parts.{Parts, rows_in, rows_of, start_of}
 use Rattle.plan_nodes.specs.declared.nodes.PlanNode.TheVariants.{EmptyRows, HashAggregate}
 use Rattle.plan_nodes.specs.declared.plan.Plan.{Plan, roll-Plan}
 use Rattle.plan_nodes.specs.PlanTrees.{PlanTree}
@@ -21,8 +25,10 @@ use Rattle.plan_nodes.specs.Seen.{plan_tree, planned}
 use Rattle.plan_nodes.proofs.PlanLemmas.{tree-roll}
 use Rattle.plan_meaning.specs.WellFormed.{IsTypeOfRows, IsWellFormed}
 use Rattle.plan_scans.specs.Scans.{HoldsTiles, info_over, tables_of}
-use Rattle.row_exec.specs.Examples.{count, counted, empty}
+use Rattle.row_exec.specs.Examples.{HasValues, count, counted, empty}
+use Rattle.row_exec.specs.Passes.{CanGoOver, CanPass, Pass}
 use Rattle.row_exec.specs.Run.{CanRun}
+use Rattle.row_exec.proofs.Typed.{each-well_formed}
 
 -- rows without columns, of which there are none
 no-rows : (t : RelType) → t.columns ≡ [] → IsTypeOfRows t 0 []
@@ -93,3 +99,27 @@ can-run-counted schema parts p e = record { tree = counted; is = e; formed = cou
 -- there is no tile
 pub no-tiles : (schema : Schema) (parts : Parts) (tables : List (List Row)) → parts ≡ start_of tables → HoldsTiles schema parts
 no-tiles schema parts tables e = subst (HoldsTiles schema) (sym e) (record { rows = λ instance tile found. absurd (cc) })
+
+-- ---- passes over the one table
+
+module _ (types : List SqlType) (row : Row) (typed : HasTypes row types) where
+  test-ready : (o : Option Expr) → IfSome o (λ e. IsSome (type_of e types)) → IfSome o (λ e. expressions.IsWellFormed e row)
+  test-ready None h = h
+  test-ready (Some e) h = record { types = types; has_types = typed; typed = h }
+
+  items-ready : (o : Option (List Expr)) → IfSome o (λ es. All (λ e. IsSome (type_of e types)) es) → IfSome o (λ es. All (λ e. expressions.IsWellFormed e row) es)
+  items-ready None h = h
+  items-ready (Some es) h = each-well_formed es types row typed h
+
+  can-pass : (pass : Pass) → HasValues types pass → CanPass pass row
+  can-pass pass h = record { tested = test-ready pass.condition h.tested; computed = λ _. items-ready pass.items h.computed }
+
+pub can-go-over : (types : List SqlType) (pass : Pass) (rows : List Row) (parts : Parts) → parts ≡ start_of (rows ∷ []) → pass.table ≡ 0 → HasValues types pass → All (λ row. HasTypes row types) rows
+    → CanGoOver parts pass
+can-go-over types pass rows parts e first values typed =
+    subst (λ (ps : Parts). CanGoOver ps pass) (sym e)
+    (record {
+      there = subst (λ (n : ℕ). IsSome (rows_of (start_of (rows ∷ [])) (Table n))) (sym first) refl;
+      ready = subst (λ (n : ℕ). All (CanPass pass) (rows_in (start_of (rows ∷ [])) n)) (sym first)
+          (All-weaker (λ row. HasTypes row types) (CanPass pass) (λ row k. can-pass types row k pass values) rows typed);
+    })

@@ -60,7 +60,7 @@ items-typed f (x ∷ xs) ts e =
     let b = of_both-some (λ t ts. Some (t ∷ ts)) (f x) (types_by f xs) ts e in
     All-cons (λ x. IsSome (f x)) x xs (some_of (f x) b.first b.first_is) (items-typed f xs b.second b.second_is)
 
-each-well_formed : (items : List Expr) (columns : List SqlType) (row : Row) → HasTypes row columns → All (λ e. IsSome (expressions.type_of e columns)) items → All (λ e. IsWellFormed e row) items
+pub each-well_formed : (items : List Expr) (columns : List SqlType) (row : Row) → HasTypes row columns → All (λ e. IsSome (expressions.type_of e columns)) items → All (λ e. IsWellFormed e row) items
 each-well_formed items columns row h all =
     All-weaker (λ e. IsSome (expressions.type_of e columns)) (λ e. IsWellFormed e row) (λ e k. record { types = columns; has_types = h; typed = k }) items all
 

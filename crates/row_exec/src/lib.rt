@@ -3,8 +3,10 @@
 
 mod joins;
 pub mod laws;
+mod lent;
 mod nodes;
 mod one_input;
+mod pass;
 mod run;
 mod split;
 mod two_inputs;

@@ -8,8 +8,8 @@ use cal_expr::{Expr, eval};
 use cal_value::{List, NoMemory, Row};
 use std::alloc::Global;
 
-// Whether the condition is TRUE of the row.
-fn holds_of(alloc: Global, condition: &Expr, row: &Row) -> Result<bool, NoMemory>
+/// Whether the condition is TRUE of the row.
+pub(crate) fn holds_of(alloc: Global, condition: &Expr, row: &Row) -> Result<bool, NoMemory>
     requires { IsWellFormed condition.now row.now }
     ensures { IfOk result (λ held. held ≡ holds condition.now row.now) }
 {
@@ -17,8 +17,8 @@ fn holds_of(alloc: Global, condition: &Expr, row: &Row) -> Result<bool, NoMemory
     Ok(value.is_true())
 }
 
-// The values of the items over the row.
-fn values(alloc: Global, items: &List<Expr>, row: &Row) -> Result<Row, NoMemory>
+/// The values of the items over the row.
+pub(crate) fn values(alloc: Global, items: &List<Expr>, row: &Row) -> Result<Row, NoMemory>
     requires { All (λ e. IsWellFormed e row.now) items.now }
     ensures { IfOk result (λ values. values ≡ spec.projected items.now row.now) }
 {

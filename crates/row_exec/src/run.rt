@@ -7,7 +7,9 @@ ghost use Rattle.plan_scans.specs.Scans.{HoldsTiles};
 ghost use Rattle.row_exec.specs.Nodes.{HasWidth};
 ghost use Rattle.row_exec.specs.Run.{CanRun, IsRun};
 
+use crate::lent::pass_rows;
 use crate::one_input::one_input;
+use crate::pass::pass_of;
 use crate::two_inputs::two_inputs;
 use crate::width::width_of;
 use cal_schema::Schema;
@@ -42,8 +44,8 @@ fn widths_of(left: &Plan, right: &Plan, schema: &Schema) -> Result<(usize, u32),
 }
 
 /// The rows that a plan means over the tables and tiles of the snapshot, each as often as it means it, in the order that it
-/// gives. It makes one step for each row of each part that the plan reads; where there is no memory, at most so many. A row of
-/// 2^32 columns or more counts as want of memory.
+/// gives. It makes one step for each row of each part that the plan reads; where there is no memory, at most so many. A right
+/// row of a join that has 2^32 columns or more counts as want of memory.
 pub fn execute<L: Ledger>(
     alloc: Global,
     plan: &Plan,
@@ -60,6 +62,9 @@ pub fn execute<L: Ledger>(
 {
     if !is_enumerable(&plan.node) {
         return scan_rows(alloc, plan, schema, snapshot, steps);
+    }
+    if let Some(pass) = pass_of(plan) {
+        return pass_rows(alloc, &pass, snapshot, steps);
     }
     match plan.inputs.as_slice() {
         [] => Ok(List::new(alloc)),

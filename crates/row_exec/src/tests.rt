@@ -1,24 +1,33 @@
-ghost use Rattle.std.specs.Prelude.{◌≡◌, ◌↔◌, ◌++◌, IsTrue, IfOk, IsSome, All};
+ghost use Rattle.std.specs.Prelude.{◌≡◌, ◌↔◌, ◌++◌, ◌∷◌, [], IsTrue, IfOk, IsSome, All};
 ghost use Rattle.cal_value.specs.Types.{HasTypes};
 ghost use Rattle.cal_expr.specs.Typing.{type_of};
 ghost use Rattle.cal_rel.specs.Typing as typing;
 ghost use Rattle.cal_expr.specs.WellFormed.{IsWellFormed};
+ghost use Rattle.cal_snapshot.specs.Parts.{start_of};
 ghost use Rattle.exec_ops.specs.Ready.{CanGroup, HasCallType};
 ghost use Rattle.exec_ops.specs.Sort.{IsSortedOn};
+ghost use Rattle.row_exec.specs.Examples.{HasValues};
 ghost use Rattle.row_exec.specs.Ready.{CanGroupSorted, CanJoinOn, CanMergeOn, CanRunOne, CanRunTwo};
 
+use crate::lent::pass_rows;
 use crate::one_input::one_input;
+use crate::pass::{TablePass, pass_of};
 use crate::small::counted_nothing;
 use crate::two_inputs::two_inputs;
 use cal_aggregate::result_type;
 use cal_expr::{Expr, expr_type};
 use cal_schema::{AggCall, JoinKind, RelType};
+use cal_snapshot::Snapshot;
 use cal_value::{
-    Agg, Duplicate, Interval, KeyOrder, Kind, List, NoMemory, Op, Row, SqlType, Value, has_types,
-    is_in_order,
+    Agg, Duplicate, Interval, KeyOrder, Kind, List, NoMemory, Op, Row, SqlType, Steps, Value,
+    has_types, is_in_order,
 };
-use plan_nodes::{PlanNode, ascending_by, left_order, right_order};
+use plan_nodes::{Plan, PlanNode, ascending_by, left_order, right_order};
+use sqlite_items::Items;
 use std::alloc::Global;
+use std::marker::Brand;
+use std::sync::Arc;
+use std::sync::ledger::{Blank, Ledger};
 use std::test::Fail;
 
 fn list_of<T: Drop, const N: usize>(alloc: Global, items: [T; N]) -> Result<List<T>, NoMemory> {
@@ -408,6 +417,147 @@ fn nodes_of_two_inputs(rt: HostRuntime) -> Result<(), Fail> {
     assert!(rt; nested(alloc)?);
     assert!(rt; hashed(alloc)?);
     assert!(rt; merged(alloc)?);
+    Ok(())
+}
+
+// ---- one pass over a table, of rows of two columns
+
+fn snapshot_of(alloc: Global, rows: List<Row>) -> Result<Snapshot, NoMemory>
+    ensures { IfOk result (λ snapshot. snapshot ≡ start_of (rows ∷ [])) }
+{
+    let mut tables = List::new(alloc);
+    tables.push(Arc::new(alloc, rows)?)?;
+    Snapshot::start(alloc, tables)
+}
+
+// Whether the condition and the items have values over each row of these types.
+fn has_values(pass: &TablePass<'_>, types: &List<SqlType>) -> bool
+    ensures { IsTrue result → HasValues types.now pass.now }
+{
+    let tested = match pass.condition {
+        Some(condition) => expr_type(condition, types).is_some(),
+        None => true,
+    };
+    let computed = match pass.items {
+        Some(items) => are_typed(items, types),
+        None => true,
+    };
+    tested && computed
+}
+
+// None where the pass can't go over these rows as the first table.
+fn passed<L: Ledger>(
+    alloc: Global,
+    blank: Blank,
+    pass: &TablePass<'_>,
+    given: List<Row>,
+) -> Result<Option<List<Row>>, NoMemory>
+    requires name { blank.name ≡ L.name }
+    requires parts { blank.parts ≡ L.parts }
+    requires whole { L.parts ≡ 1 }
+{
+    let mut steps: Steps<L> = Steps::new(blank);
+    let types = types(alloc)?;
+    if pass.table != 0 || !has_values(pass, &types) || !have_types(&given, &types) {
+        return Ok(None);
+    }
+    let snapshot = snapshot_of(alloc, given)?;
+    Ok(Some(pass_rows(alloc, pass, &snapshot, &mut steps)?))
+}
+
+fn node(alloc: Global, word: &str) -> Result<PlanNode, NoMemory> {
+    match word {
+        "MemScan" => Ok(PlanNode::MemScan { table: 0 }),
+        "CsvScan" => Ok(PlanNode::CsvScan { table: 0 }),
+        "MemFilter" => Ok(PlanNode::MemFilter {
+            predicate: Expr::Literal(Value::Bool(true)),
+        }),
+        "Filter" => Ok(PlanNode::Filter {
+            predicate: Expr::binary(alloc, Op::Less, Expr::Column(0), Expr::Column(1))?,
+        }),
+        "Project" => Ok(PlanNode::Project {
+            items: list_of(alloc, [Expr::Column(1), Expr::Column(0)])?,
+        }),
+        _ => Ok(PlanNode::ToEnumerable),
+    }
+}
+
+fn over(alloc: Global, below: Option<Plan>, word: &str) -> Result<Plan, NoMemory> {
+    let mut inputs = Items::new(alloc);
+    if let Some(below) = below {
+        inputs.push(below)?;
+    }
+    Ok(Plan {
+        node: node(alloc, word)?,
+        inputs,
+        rows: 4,
+        part_rows: 0,
+    })
+}
+
+// The plan of these nodes, from the input up.
+fn plan_of(alloc: Global, words: &[&str]) -> Result<Option<Plan>, NoMemory> {
+    let mut plan = None;
+    for word in words {
+        plan = Some(over(alloc, plan.take(), word)?);
+    }
+    Ok(plan)
+}
+
+fn pass_makes(alloc: Global, plan: &Plan) -> Result<Option<List<Row>>, NoMemory> {
+    match pass_of(plan) {
+        Some(pass) => {
+            let given = rows(alloc, MIXED)?;
+            passed::<Brand>(alloc, Blank::new(1), &pass, given)
+        }
+        None => Ok(None),
+    }
+}
+
+// None where the plan of these nodes isn't one pass.
+fn made_by(alloc: Global, words: &[&str]) -> Result<Option<List<Row>>, NoMemory> {
+    match plan_of(alloc, words)? {
+        Some(plan) => pass_makes(alloc, &plan),
+        None => Ok(None),
+    }
+}
+
+fn are_wanted(
+    alloc: Global,
+    made: &Option<List<Row>>,
+    wanted: Option<&[[i128; 2]]>,
+) -> Result<bool, NoMemory> {
+    match (made, wanted) {
+        (Some(made), Some(wanted)) => Ok(*made == rows(alloc, wanted)?),
+        (None, None) => Ok(true),
+        _ => Ok(false),
+    }
+}
+
+const KEPT: &[[i128; 2]] = &[[2, 20], [2, 50]];
+
+const TURNED: &[[i128; 2]] = &[[20, 2], [3, 30], [40, N], [50, 2]];
+
+// Nodes from the input up, and what they make of the rows of a table where they are one pass over it.
+const PASSES: &[(&[&str], Option<&[[i128; 2]]>)] = &[
+    (&["MemScan", "ToEnumerable", "Filter"], Some(KEPT)),
+    (&["CsvScan", "ToEnumerable", "Filter"], Some(KEPT)),
+    (&["MemScan", "ToEnumerable", "Project"], Some(TURNED)),
+    (
+        &["MemScan", "ToEnumerable", "Filter", "Project"],
+        Some(&[[20, 2], [50, 2]]),
+    ),
+    (&["MemScan", "ToEnumerable"], None),
+    (&["MemScan", "MemFilter", "ToEnumerable", "Project"], None),
+    (&["MemScan", "ToEnumerable", "Project", "Filter"], None),
+];
+
+#[test]
+fn passes_over_a_table(rt: HostRuntime) -> Result<(), Fail> {
+    for (words, wanted) in PASSES {
+        let made = made_by(rt.alloc(), words)?;
+        assert!(rt; are_wanted(rt.alloc(), &made, *wanted)?, "{words:?}");
+    }
     Ok(())
 }
 

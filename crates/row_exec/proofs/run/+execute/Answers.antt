@@ -1,9 +1,12 @@
-use Rattle.std.proofs.Common.{[], ◌∷◌, drop, subst, sym, ◌∙◌, rules, arith}
-use Rattle.std.proofs.lemmas.Result.{IfOk-weaker}
+use Rattle.std.proofs.Common.{◌≡◌, ◌+◌, List, [], ◌∷◌, drop, ap, subst, sym, ◌∙◌, rules, arith}
+use Rattle.std.proofs.lemmas.Result.{IfOk-weaker, on_ok_weaker}
+use Rattle.cal_rel.specs.Operators.{Row}
+use Rattle.cal_snapshot.specs.Parts.{rows_in}
 use Rattle.plan_nodes.specs.declared.plan.Plan.{out-Plan}
 use Rattle.plan_nodes.proofs.PlanLemmas.{inputs-none, inputs-one, inputs-two}
 use Rattle.plan_scans.specs.Scans.{AreScanned}
 use Rattle.row_exec.specs.Nodes.{IsMade}
+use Rattle.row_exec.specs.Passes.{passed}
 use Rattle.row_exec.specs.Run.{IsRun}
 use Rattle.row_exec.proofs.Runs.{can-scan, reads-none, run-none, runs-one, runs-two, scanned-run}
 use Rattle.row_exec.proofs.Sizes.{below-first, below-second}
@@ -20,6 +23,26 @@ pub returns-then-not-is_enumerable-clause-rows : goal.returns-then-not-is_enumer
 returns-then-not-is_enumerable-clause-rows g t c =
     IfOk-weaker c.scan_rows.result (AreScanned c.args.schema.now c.args.snapshot.now c.args.plan.now) (IsRun c.args.schema.now c.args.snapshot.now c.args.plan.now)
     (λ rows s. scanned-run c.args.schema.now c.args.snapshot.now c.args.plan.now rows c.requires.plan (sym c.is_enumerable.ensures ∙ c.if-not-is_enumerable.true) s) c.scan_rows.ensures.rows
+
+-- ---- a pass over a table
+
+pub pass_rows-requires : goal.pass_rows-requires
+pass_rows-requires g t c = c.in-Some.ensures.can c.args.schema.now c.args.snapshot.now c.requires.plan
+
+pub returns-in-Some-clause-rows : goal.returns-in-Some-clause-rows
+returns-in-Some-clause-rows g t c =
+    IfOk-weaker c.pass_rows.result (λ (rows : List Row). rows ≡ passed c.in-Some.pass (rows_in c.args.snapshot.now c.in-Some.pass.table)) (IsRun c.args.schema.now c.args.snapshot.now c.args.plan.now)
+    (λ rows e. subst (IsRun c.args.schema.now c.args.snapshot.now c.args.plan.now) (sym e) (c.in-Some.ensures.makes c.args.schema.now c.args.snapshot.now c.requires.plan)) c.pass_rows.ensures.rows
+
+pub returns-in-Some-clause-all : goal.returns-in-Some-clause-all
+returns-in-Some-clause-all g t c =
+    let counts = c.in-Some.ensures.counts c.args.schema.now c.args.snapshot.now c.requires.plan in
+    on_ok_weaker c.pass_rows.result (λ e. e ∙ ap (λ n. c.args.steps.now + n) (sym counts)) c.pass_rows.ensures.all
+
+pub returns-in-Some-clause-most : goal.returns-in-Some-clause-most
+returns-in-Some-clause-most g t c =
+    let counts = c.in-Some.ensures.counts c.args.schema.now c.args.snapshot.now c.requires.plan in
+    omega (arith, counts, c.pass_rows.ensures.most)
 
 -- ---- no input
 
