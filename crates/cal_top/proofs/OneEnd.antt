@@ -17,6 +17,7 @@ use Rattle.command_line.specs.Reading.{reading}
 use Rattle.command_line.specs.declared.reading.Asked.{Asked}
 use Rattle.session_lane.specs.declared.reply.Reply.{Reply}
 use Rattle.rule_hep.specs.Meaning.{Meaning}
+use Rattle.cal_snapshot.specs.Parts.{Parts, start_of}
 use Rattle.session_lane.specs.Replies.{AreSameReplies, IsReplyTo}
 use Rattle.cal_top.specs.Run.{NothingRead, HasRead, IsReplied, IsStopped, HasCause}
 use Rattle.cal_top.specs.RunEnd.{AreSameEnds, HaveSameReplies, RunEnd, IsRightEnd}
@@ -230,16 +231,16 @@ some_replies r s a b p q same =
 
 -- two right replies are the same
 abbrev pub OneReply : List Meaning → Type 0
-OneReply rules = (budget : ℕ) (schema : Schema) (db : Db) (text : List ℕ) (a b : Reply) → IsReplyTo rules budget schema db text a → IsReplyTo rules budget schema db text b → AreSameReplies a b
+OneReply rules = (budget : ℕ) (schema : Schema) (parts : Parts) (text : List ℕ) (a b : Reply) → IsReplyTo rules budget schema parts text a → IsReplyTo rules budget schema parts text b → AreSameReplies a b
 
 same_replied : (rules : List Meaning) → OneReply rules → (next : Next) (asked : Asked) (d e : Option Db) (r s : Option Reply) → IsReplied rules next asked d r → IsReplied rules next asked e s → (d ≡ e) × HaveSameReplies r s
 same_replied rules one next asked d e r s p q =
     let whole = sym p.all_read ∙ q.all_read in
     let schema = same_schema p.schema q.schema p.tables q.tables whole in
     let tables = same_tables p.schema q.schema p.tables q.tables whole in
-    let moved : IsReplyTo rules asked.budget p.schema p.tables asked.sql q.answer =
-    subst (λ (x : Schema). IsReplyTo rules asked.budget x p.tables asked.sql q.answer) (sym schema) (subst (λ (x : Db). IsReplyTo rules asked.budget q.schema x asked.sql q.answer) (sym tables) q.replied) in
-    (p.db_is ∙ ap Some tables ∙ sym q.db_is, some_replies r s p.answer q.answer p.reply_is q.reply_is (one asked.budget p.schema p.tables asked.sql p.answer q.answer p.replied moved))
+    let moved : IsReplyTo rules asked.budget p.schema (start_of p.tables.tables) asked.sql q.answer =
+    subst (λ (x : Schema). IsReplyTo rules asked.budget x (start_of p.tables.tables) asked.sql q.answer) (sym schema) (subst (λ (x : Db). IsReplyTo rules asked.budget q.schema (start_of x.tables) asked.sql q.answer) (sym tables) q.replied) in
+    (p.db_is ∙ ap Some tables ∙ sym q.db_is, some_replies r s p.answer q.answer p.reply_is q.reply_is (one asked.budget p.schema (start_of p.tables.tables) asked.sql p.answer q.answer p.replied moved))
 
 not_done : (store : StoreState) (next : Next) (fault : StartFault) (schema : Schema) (db : Db) → Follows store next fault → next ≡ done schema db → ⊥
 not_done store next fault schema db (inl p) is = stops_done fault schema db (sym p ∙ is)

@@ -1,12 +1,13 @@
 -- Where no memory is left for the text of a run, and how a run over valid input ends.
-use Rattle.std.proofs.Common.{◌≡◌, ◌≤◌, ◌<◌, ℕ, List, [], Option, Some, None, ◌⊎◌, inl, inr, sym, ap, subst, ◌∙◌, arith, refl}
-use Rattle.std.specs.Prelude.{Result, Err, IfSome, length, IsSomeAnd}
+use Rattle.std.proofs.Common.{◌≡◌, ◌≤◌, ◌<◌, ℕ, List, Option, Some, None, ◌⊎◌, inl, inr, sym, ap, subst, ◌∙◌, arith, refl}
+use Rattle.std.specs.Prelude.{Result, Ok, Err, IfSome, length, IsSomeAnd, option_map}
 use Rattle.cal_outside.specs.Faults.{Rose, one_more}
 use Rattle.cal_outside.specs.Sink.{SinkState}
 use Rattle.cal_outside.specs.Store.{StoreState}
 use Rattle.cal_schema.specs.declared.database.Db.{Db}
 use Rattle.cal_start.specs.Ends.{AreRead, EndCause, IsLonger}
-use Rattle.cal_start.specs.Next.{Next, stops, next_of}
+use Rattle.cal_schema.specs.declared.schema.Schema.{Schema}
+use Rattle.cal_start.specs.Next.{Next, stops, done, next_of}
 use Rattle.cal_start.specs.declared.fault.StartFault.{StartFault}
 use Rattle.cal_start.specs.declared.fault.StartFault.TheVariants as start
 use Rattle.cal_start.specs.declared.fault.TableFault.TheVariants as table
@@ -16,9 +17,9 @@ use Rattle.command_line.specs.Reading.{reading}
 use Rattle.command_line.specs.declared.reading.Asked.{Asked}
 use Rattle.rule_hep.specs.Meaning.{Meaning}
 use Rattle.session_lane.specs.declared.reply.Reply.{Reply}
-use Rattle.session_lane.specs.declared.reply.Reply.TheVariants.{Rows, Refused}
-use Rattle.cal_top.specs.Run.{NoReply, NothingRead, HasRead, IsReplied, IsStopped, HasCause, IsFine, IsValid, Ends}
-use Rattle.cal_top.specs.Texts.{status_of, top_fault}
+use Rattle.session_lane.specs.declared.reply.Reply.TheVariants.{Rows, Plan, Memo, Refused}
+use Rattle.cal_top.specs.Run.{NoReply, HasRead, IsStopped, HasCause, IsFine, IsValid, Ends}
+use Rattle.cal_top.specs.Texts.{status_of, top_fault, schema_in, schema_of}
 use Rattle.cal_top.specs.declared.record.QueryRecord.{QueryRecord}
 use Rattle.cal_top.specs.declared.record.TopFault.{TopFault}
 use Rattle.cal_top.specs.declared.record.TopFault.TheVariants.{BadWords, NotJson, BadModel, Table, TooBig, ReadFault, SinkFault, NoMemory}
@@ -106,6 +107,8 @@ IsFineStatus status = (status ≡ 0) ⊎ (status ≡ 1) ⊎ (status ≡ 7)
 
 reply_is_fine : (reply : Option Reply) (status : ℕ) → status ≡ status_of None reply → IsFineStatus status
 reply_is_fine (Some (Rows at names answer)) status e = inl e
+reply_is_fine (Some (Plan at planning)) status e = inl e
+reply_is_fine (Some (Memo at planning)) status e = inl e
 reply_is_fine (Some (Refused at cause)) status e = inr (inl e)
 reply_is_fine None status e = inl e
 
@@ -137,6 +140,19 @@ stopped_cause rules old new words asked start.ReadFault files db reply has read 
     record { asked = asked; words_have = has; read = read; then = record { start = start.ReadFault; fault_is = refl; cause = cause; no_reply = none } }
 stopped_cause rules old new words asked start.NoMemory files db reply has read cause none =
     inr (record { asked = asked; words_have = has; read = read; then = inl none })
+
+-- the schema that is told is the one that the files give
+pub schema-told : (words : List (List ℕ)) (asked : Asked) (files : List FileRead) (schema : Schema) (db : Db) → reading words ≡ Some asked → next_of asked.model files ≡ done schema db
+    → schema_of words files ≡ schema
+unfolding schema_of
+schema-told words asked files schema db has is =
+    ap (λ o. schema_in (option_map (λ (a : Asked). next_of a.model files) o)) has ∙ ap (λ next. schema_in (Some next)) is
+
+pub told-over : (P : Schema → Type 0) (old new : StoreState) (words : List (List ℕ)) (asked : Asked) (outcome : Result Started StartFault) (started : Started) (schema : Schema) (files kept : List FileRead)
+    → Some asked ≡ reading words → outcome ≡ Ok started → started.schema ≡ schema → EndCause old new (next_of asked.model files) outcome → kept ≡ files → P schema → P (schema_of words kept)
+told-over P old new words asked outcome started schema files kept has is same cause kept_is here =
+    let ended : next_of asked.model files ≡ done started.schema started.db = subst (EndCause old new (next_of asked.model files)) is cause in
+    subst P (sym (ap (schema_of words) kept_is ∙ schema-told words asked files started.schema started.db (sym has) ended ∙ same)) here
 
 pub stopped_cause_of : (rules : List Meaning) (old new : StoreState) (words : List (List ℕ)) (asked : Asked) (outcome : Result Started StartFault) (fault : StartFault) (top : TopFault)
     (files kept : List FileRead) (told : Option TopFault) (db : Option Db) (reply : Option Reply)

@@ -12,6 +12,7 @@ use Rattle.command_line.specs.Reading.{reading}
 use Rattle.command_line.specs.declared.reading.Asked.{Asked}
 use Rattle.rule_hep.specs.Meaning.{Meaning}
 use Rattle.session_lane.specs.declared.reply.Reply.{Reply}
+use Rattle.cal_snapshot.specs.Parts.{start_of}
 use Rattle.session_lane.specs.Replies.{IsReplyTo}
 use Rattle.cal_top.specs.Texts.{status_of, top_fault}
 use Rattle.cal_top.specs.declared.record.QueryRecord.{QueryRecord}
@@ -33,7 +34,7 @@ pub record HasRead (store : StoreState) (words : List (List ℕ)) (files : List 
   pub read : AreRead store (next_of asked.model) files
   pub then : P asked
 
--- the files give a schema and its tables, and the statement has its reply over them, planned by these rules
+-- the files give a schema and its tables, and the statement has its reply over a first snapshot of them, planned by these rules
 pub record IsReplied (rules : List Meaning) (next : Next) (asked : Asked) (db : Option Db) (reply : Option Reply) : Type 0 where
   pub schema : Schema
   pub tables : Db
@@ -41,7 +42,7 @@ pub record IsReplied (rules : List Meaning) (next : Next) (asked : Asked) (db : 
   pub all_read : next ≡ done schema tables
   pub db_is : db ≡ Some tables
   pub reply_is : reply ≡ Some answer
-  pub replied : IsReplyTo rules asked.budget schema tables asked.sql answer
+  pub replied : IsReplyTo rules asked.budget schema (start_of tables.tables) asked.sql answer
 
 -- the start ended with this fault, for its cause
 pub record IsStopped (old new : StoreState) (next : Next) (fault : TopFault) (db : Option Db) (reply : Option Reply) : Type 0 where

@@ -17,6 +17,3 @@ pub use model_json::ModelCause;
 pub use query::run_query;
 pub use record::{QueryRecord, TopFault};
 pub use session_lane::{Answer, Cause, Reply, one_reply_is_right};
-
-#[cfg(test)]
-mod tests;

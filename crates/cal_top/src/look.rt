@@ -3,11 +3,12 @@ ghost use Rattle.std.specs.Prelude.{◌≡◌, [], IfOk, IfSome, Some, None, map
 ghost use Rattle.std.specs.Arc.{arc_value};
 ghost use Rattle.cal_outside.specs.Store.{IsLater};
 ghost use Rattle.cal_schema.specs.Fits.{Fits};
+ghost use Rattle.cal_snapshot.specs.Parts.{start_of};
 ghost use Rattle.cal_schema.specs.Valid.{IsValidSchema};
 ghost use Rattle.cal_start.specs.Ends.{KeepsEach};
 ghost use Rattle.session_lane.specs.Replies.{IsReplyTo};
 ghost use Rattle.cal_top.specs.Run.{HasCause};
-ghost use Rattle.cal_top.specs.Texts.{text_of};
+ghost use Rattle.cal_top.specs.Texts.{text_of, fault_text as fault_text_of, schema_of, IsSpelled};
 
 use crate::record::{TopFault, of_start};
 use crate::tables::{all_unshared, shared, shared_again};
@@ -45,7 +46,7 @@ fn stopped(alloc: Global, fault: TopFault, files: List<FileRead>) -> Outcome
     ensures files { result.files ≡ files }
     ensures db { result.db ≡ None }
     ensures reply { result.reply ≡ None }
-    ensures text { IfSome result.text (λ text. text.items ≡ text_of result.fault result.reply) }
+    ensures text { IfSome result.text (λ text. text.items ≡ fault_text_of fault) }
 {
     let text = fault_text(alloc, &fault).ok();
     Outcome {
@@ -57,15 +58,17 @@ fn stopped(alloc: Global, fault: TopFault, files: List<FileRead>) -> Outcome
     }
 }
 
-fn with_reply(alloc: Global, files: List<FileRead>, made: Replied) -> Outcome
+fn with_reply(alloc: Global, files: List<FileRead>, made: Replied, schema: &Schema) -> Outcome
+    requires { IsSpelled made.reply }
     ensures fault { result.fault ≡ None }
     ensures files { result.files ≡ files }
     ensures db { result.db ≡ Some made.db }
     ensures reply { result.reply ≡ Some made.reply }
-    ensures text { IfSome result.text (λ text. text.items ≡ text_of result.fault result.reply) }
+    ensures text { IfSome result.text (λ text. text.items
+        ≡ text_of schema.now result.fault result.reply) }
 {
     let Replied { db, reply } = made;
-    let text = reply_text(alloc, &reply).ok();
+    let text = reply_text(alloc, &reply, schema).ok();
     Outcome {
         fault: None,
         files,
@@ -87,10 +90,31 @@ fn reply_over_parts(
     requires valid { IsValidSchema schema.now }
     requires fits { Fits (record { tables = map arc_value parts }) schema.now }
     ensures { IfOk result (IsReplyTo (map (λ b. meaning b) rules.now) budget schema.now
-        (record { tables = map arc_value parts }) sql.now) }
+        (start_of (map arc_value parts)) sql.now) }
 {
     let snapshot = Snapshot::start(alloc, parts)?;
     reply_to(alloc, sql.as_str(), schema, &snapshot, rules, budget)
+}
+
+// The reply, with the tables over which it was made.
+fn with_tables(
+    alloc: Global,
+    parts: List<Arc<List<Row>>>,
+    reply: Reply,
+) -> Result<Replied, NoMemory>
+    ensures db { IfOk result (λ made. made.db ≡ record { tables = map arc_value parts }) }
+    ensures reply { IfOk result (λ made. made.reply ≡ reply) }
+{
+    match all_unshared(alloc, parts) {
+        Ok(tables) => Ok(Replied {
+            db: Db { tables },
+            reply,
+        }),
+        Err(no_memory) => {
+            drop(reply);
+            Err(no_memory)
+        }
+    }
 }
 
 // The reply to the statement over the tables, which are answered as they were.
@@ -105,17 +129,14 @@ fn reply_over(
     requires valid { IsValidSchema schema.now }
     requires fits { Fits db schema.now }
     ensures db { IfOk result (λ made. made.db ≡ db) }
-    ensures reply { IfOk result (λ made.
-        IsReplyTo (map (λ b. meaning b) rules.now) budget schema.now db sql.now made.reply) }
+    ensures reply { IfOk result (λ made. IsReplyTo (map (λ b. meaning b) rules.now) budget
+        schema.now (start_of db.tables) sql.now made.reply) }
+    ensures spelled { IfOk result (λ made. IsSpelled made.reply) }
 {
     let parts = shared(alloc, db.tables)?;
     let again = shared_again(alloc, parts.as_slice())?;
     let reply = reply_over_parts(alloc, sql, schema, again, rules, budget)?;
-    let tables = all_unshared(alloc, parts)?;
-    Ok(Replied {
-        db: Db { tables },
-        reply,
-    })
+    with_tables(alloc, parts, reply)
 }
 
 /// Reads the words, the model and the files of its tables, and answers the statement over them.
@@ -130,7 +151,8 @@ pub fn look<S: Store>(
     ensures cause { HasCause (map (λ b. meaning b) rules.now)
         (S.state store.old) (S.state store.new) words.now
         result.fault result.files result.db result.reply }
-    ensures text { IfSome result.text (λ text. text.items ≡ text_of result.fault result.reply) }
+    ensures text { IfSome result.text (λ text. text.items
+        ≡ text_of (schema_of words.now result.files) result.fault result.reply) }
 {
     let asked = match read_words(alloc, words) {
         Ok(Some(asked)) => asked,
@@ -147,7 +169,7 @@ pub fn look<S: Store>(
             rules,
             asked.budget,
         ) {
-            Ok(made) => with_reply(alloc, files, made),
+            Ok(made) => with_reply(alloc, files, made, &schema),
             Err(_) => stopped(alloc, TopFault::NoMemory, files),
         },
         Err(fault) => stopped(alloc, of_start(fault), files),

@@ -5,7 +5,7 @@ ghost use Rattle.cal_outside.specs.Store.{IsLater};
 ghost use Rattle.cal_start.specs.Ends.{KeepsEach};
 ghost use Rattle.cal_top.specs.declared.record.TopFault.{TopFault as Fault};
 ghost use Rattle.cal_top.specs.Run.{HasCause, Ends, IsValid};
-ghost use Rattle.cal_top.specs.Texts.{text_of};
+ghost use Rattle.cal_top.specs.Texts.{text_of, schema_of};
 
 use crate::finish::finish;
 use crate::look::{Outcome, look};
@@ -14,12 +14,12 @@ use cal_outside::{Sink, Store, Word};
 use rule_hep::Rule;
 use std::alloc::Global;
 
-/// Answers one SELECT over the tables of the model that the words name, and writes the text of the answer. It never waits
-/// and always returns.
+/// Answers one statement over the tables of the model that the words name, and writes the text of the answer: the rows of a SELECT, or the
+/// plan or the memo of one that is explained. It never waits and always returns.
 ///
-/// A SELECT's tree is rewritten by the rules, which come in the order of the list, before it runs.
+/// A SELECT's tree is rewritten by the rules, which come in the order of the list, and a memo is searched by them; its cheapest plan runs.
 ///
-/// The words are `MODEL SQL [--budget N]`. Statuses: 0 header and rows, 1 the statement is refused, 2 the words have no
+/// The words are `MODEL SQL [--budget N]`. Statuses: 0 header and rows, or a plan or a memo, 1 the statement is refused, 2 the words have no
 /// reading, 3 a fault of the model or of a table's file, 5 a read failed, 6 the sink failed, 7 no memory.
 pub fn run_query<S: Store, K: Sink>(
     alloc: Global,
@@ -36,9 +36,10 @@ pub fn run_query<S: Store, K: Sink>(
     ensures run { (fault : Option Fault)
         × HasCause (map (λ b. meaning b) rules.now)
         (S.state store.old) (S.state store.new) words.now fault result.files result.db result.reply
-        × Ends fault (text_of fault result.reply) (K.state out.old) (K.state out.new) result }
+        × Ends fault (text_of (schema_of words.now result.files) fault result.reply)
+        (K.state out.old) (K.state out.new) result }
 
-    // With valid input and no fault counted, it ends with rows, a refusal, or for want of memory.
+    // With valid input and no fault counted, it ends with an answer or what explains it, a refusal, or for want of memory.
     ensures complete { IsValid (S.state store.old) words.now
         → (Rose (S.state store.old).faults (S.state store.new).faults → ⊥)
         → (Rose (K.state out.old).faults (K.state out.new).faults → ⊥)

@@ -31,7 +31,7 @@ pub enum TopFault {
     NoMemory,
 }
 
-/// What a run leaves. `status` is 0 with the rows as reply, 1 with a refusal as reply, 2 to 7 with a fault; `files` holds
+/// What a run leaves. `status` is 0 with rows, a plan or a memo as reply, 1 with a refusal as reply, 2 to 7 with a fault; `files` holds
 /// the files that were read to their ends, in the order of the run; `db` holds the rows of the tables.
 #[derive(Debug, Drop)]
 pub struct QueryRecord {

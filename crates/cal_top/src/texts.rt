@@ -1,13 +1,18 @@
 //! The texts of faults and replies.
-ghost use Rattle.std.specs.Prelude.{◌≡◌, ◌++◌, IfOk, OnOk, string_bytes};
+ghost use Rattle.std.specs.Prelude.{◌≡◌, ◌++◌, IfOk, OnOk, IsSome, string_bytes};
+ghost use Rattle.plan_nodes.specs.Seen.{plan_tree};
 ghost use Rattle.cal_top.specs.Texts as spec;
 
 use crate::record::TopFault;
+use cal_schema::Schema;
 use cal_start::{TableFault, TableName};
 use cal_value::NoMemory;
+use explain_text::{Searched, push_memo, push_plan};
 use itoa::Buffer;
 use model_json::ModelCause;
+use plan_nodes::Plan;
 use script_text::{answer_text, push_csv_fault, push_refusal, push_table_name};
+use select_planning::Planning;
 use session_lane::{Cause, Reply};
 use std::alloc::Global;
 
@@ -112,9 +117,42 @@ fn refused_text(alloc: Global, cause: &Cause) -> Result<Vec<u8>, NoMemory>
     Ok(out.into_bytes())
 }
 
-/// The text of a reply.
-pub fn reply_text(alloc: Global, reply: &Reply) -> Result<Vec<u8>, NoMemory>
-    ensures { IfOk result (λ text. text.items ≡ spec.reply_text reply.now) }
+fn plan_text(alloc: Global, plan: &Plan, schema: &Schema) -> Result<Vec<u8>, NoMemory>
+    requires { IsSome (plan_tree plan.now) }
+    ensures { IfOk result (λ text. text.items ≡ spec.text_of_plan schema.now (plan_tree plan.now)) }
+{
+    let mut out = String::new(alloc);
+    push_plan(alloc, &mut out, plan, schema)?;
+    Ok(out.into_bytes())
+}
+
+fn memo_text(alloc: Global, planning: &Planning, schema: &Schema) -> Result<Vec<u8>, NoMemory>
+    ensures { IfOk result (λ text. text.items ≡ spec.text_of_memo schema.now planning.now) }
+{
+    let searched = Searched {
+        root: planning.root,
+        firings: planning.firings.len(),
+        complete: planning.complete,
+    };
+    let estimates = planning.estimates.as_slice();
+    let tiles = planning.tiles.as_slice();
+    let mut out = String::new(alloc);
+    push_memo(
+        alloc,
+        &mut out,
+        &planning.memo,
+        searched,
+        estimates,
+        tiles,
+        schema,
+    )?;
+    Ok(out.into_bytes())
+}
+
+/// The text of a reply over a schema.
+pub fn reply_text(alloc: Global, reply: &Reply, schema: &Schema) -> Result<Vec<u8>, NoMemory>
+    requires { spec.IsSpelled reply.now }
+    ensures { IfOk result (λ text. text.items ≡ spec.reply_text schema.now reply.now) }
 {
     match reply {
         Reply::Rows {
@@ -122,6 +160,8 @@ pub fn reply_text(alloc: Global, reply: &Reply) -> Result<Vec<u8>, NoMemory>
             names,
             answer,
         } => answer_text(alloc, names.as_slice(), answer.rows.as_slice()),
+        Reply::Plan { at: _, planning } => plan_text(alloc, &planning.plan, schema),
+        Reply::Memo { at: _, planning } => memo_text(alloc, planning, schema),
         Reply::Refused { at: _, cause } => refused_text(alloc, cause),
     }
 }

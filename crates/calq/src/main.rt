@@ -1,4 +1,4 @@
-//! `calq MODEL SQL` answers one SELECT over the table of a model file.
+//! `calq MODEL SQL` answers one SELECT over the tables of a model, or explains it.
 #![tactic(auto)]
 
 use cal_outside::{FileStore, StdSink, Word};

@@ -69,6 +69,8 @@ fn run(rt: &HostRuntime) -> Result<u8, NoMemory> {
     let mut out = StdSink::new(rt);
     match reply {
         Some(Reply::Rows { answer, .. }) => Ok(write_counts(alloc, &answer.planning, &mut out)),
+        Some(Reply::Plan { planning, .. }) => Ok(write_counts(alloc, &planning, &mut out)),
+        Some(Reply::Memo { planning, .. }) => Ok(write_counts(alloc, &planning, &mut out)),
         Some(Reply::Refused { .. }) => Ok(1),
         None => Ok(1),
     }

@@ -1,3 +1,4 @@
 pub mod Kept
+pub mod PlanLemmas
 pub mod SizeLemmas
 pub mod StartLemmas

@@ -1,7 +1,6 @@
 -- A tree adds at most as many members as it has nodes, and the tree of an accepted SELECT has few.
-use Rattle.std.proofs.Common.{◌≡◌, ◌∙◌, ℕ, ◌+◌, ◌*◌, ◌≤◌, ◌<◌, Bool, true, false, cond, List, [], ◌∷◌, ◌++◌, length, Option, Some, None, refl, sym, ap, subst, arith, if◌then◌else◌}
+use Rattle.std.proofs.Common.{◌≡◌, ℕ, ◌+◌, ◌*◌, ◌≤◌, ◌<◌, Bool, true, false, List, [], ◌∷◌, ◌++◌, length, Option, Some, None, arith, if◌then◌else◌}
 use Rattle.std.specs.List.{list_all}
-use Rattle.cal_value.specs.declared.limits.TheConstants.{FROM_LIMIT}
 use Rattle.cal_schema.specs.declared.rel_type.RelType.{RelType}
 use Rattle.cal_schema.specs.declared.schema.Schema.{Schema}
 use Rattle.cal_expr.specs.declared.expr.Expr.{Expr}
@@ -15,11 +14,10 @@ use Rattle.sql_tree.specs.declared.select.Select.{Select}
 use Rattle.sql_tree.specs.declared.tree.Tree.{Tree}
 use Rattle.sql_meaning.specs.Parts.{is_aggregate_query}
 use Rattle.sql_meaning.specs.Names.{places_from}
-use Rattle.sql_meaning.specs.Refused.{unknown_table, too_many_tables}
 use Rattle.sql_meaning.specs.Scope.{Header, header_of, scope_of}
 use Rattle.sql_to_rel.specs.Numbered.{numbered}
 use Rattle.sql_algebra.specs.declared.layout.Layout.{Layout}
-use Rattle.sql_algebra.specs.Algebra.{scan_of, joined_with, joins, from_tree, kept, takes_column, layout_of, placed as placed_tree, inputs, aggregate_tree, row_items, row_answer, group_answer, answer_tree, once_tree, algebra_over, algebra}
+use Rattle.sql_algebra.specs.Algebra.{scan_of, joined_with, joins, from_tree, kept, takes_column, layout_of, placed as placed_tree, aggregate_tree, row_items, group_answer, answer_tree, once_tree, algebra}
 use Rattle.sql_translate.specs.Translated.{IsAccepted}
 use Rattle.sql_translate.proofs.Accepted.{few-tables}
 use Rattle.sql_validator.specs.declared.checked.CheckedSelect.{CheckedSelect}

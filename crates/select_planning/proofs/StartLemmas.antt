@@ -1,32 +1,28 @@
 -- A memo into which one tree without holes was entered.
-use Rattle.std.proofs.Common.{◌≡◌, ◌∙◌, ℕ, ◌⊎◌, inl, inr, List, [], ◌∷◌, ◌++◌, Contains, Option, Some, None, refl, sym, ap, subst}
-use Rattle.std.specs.Prelude.{IsSome, map, slice_get}
+use Rattle.std.proofs.Common.{◌≡◌, ◌∙◌, ℕ, ◌⊎◌, inl, inr, List, [], ◌∷◌, ◌++◌, Contains, Option, Some, None, refl, sym, ap, subst, Bool}
+use Rattle.std.specs.Prelude.{IsSome, slice_get}
 use Rattle.std.specs.Option.{unwrap_or}
 use Rattle.std.proofs.lemmas.Option.{unwrap_or-slice_get}
 use Rattle.cal_schema.specs.declared.rel_type.RelType.{RelType}
-use Rattle.cal_schema.specs.declared.schema.Schema.{Schema}
 use Rattle.cal_rel.specs.Holes.{renumbered, EachHole}
 use Rattle.cal_rel.specs.Info.{Info}
-use Rattle.cal_rel.specs.Tree.{Tree, tree_of}
+use Rattle.cal_rel.specs.Tree.{Tree}
 use Rattle.cal_rel.specs.Typing.{type_of}
-use Rattle.memo_model.specs.Sets.{Member, Sets, became, Has, Stands}
+use Rattle.memo_model.specs.Sets.{Sets, became, Has, Stands}
 use Rattle.memo_model.specs.Sound.{over}
 use Rattle.memo_model.specs.Relations.{Keeps, IsOld, ComesFrom, Registers}
 use Rattle.memo_model.specs.Steps.{entered}
 use Rattle.memo_model.proofs.TreeLemmas.{each-weaker, renumbered-itself}
 use Rattle.memo_model.proofs.KeepLemmas.{stands-kept}
 use Rattle.memo_sets.specs.Answers.{IsSeeded}
-use Rattle.memo_sets.specs.Seen.{sets_of}
 use Rattle.rule_hep.specs.Meaning.{Meaning}
 use Rattle.search_model.proofs.AmongLemmas.{none, contains-head, cons-cases}
 use Rattle.search_model.specs.Firings.{Firing}
-use Rattle.search_model.specs.Grown.{IsOfTree, HasSource, IsGrown, StaysGrown}
-use Rattle.search_firings.specs.Seen.{firing_of}
+use Rattle.search_model.specs.Grown.{HasSource, StaysGrown}
 use Rattle.volcano_search.specs.Explored.{IsExplored}
-use Rattle.sql_algebra.specs.Algebra.{algebra}
 use Rattle.sql_tree.specs.declared.select.Select.{Select}
-use Rattle.select_planning.specs.declared.planning.Planning.{Planning}
-use Rattle.select_planning.specs.Planned.{bare, IsRewritten, IsPlanned}
+use Rattle.plan_answers.specs.Answers.{KeepsTheSelect}
+use Rattle.select_planning.specs.Found.{IsFound}
 use Rattle.select_planning.specs.Start.{no_sets, IsStarted, IsStartedFrom}
 
 -- without holes nothing is renumbered
@@ -83,20 +79,20 @@ alone-closed tree other closed among = elim (cons-cases tree [] other among) [
 ]
 
 -- a search from the start tree of a SELECT
-pub planned-by : (rules : List Meaning) (budget : ℕ) (schema : Schema) (select : Select) (planning : Planning) (old : Sets) (s : ℕ)
-    → IsRewritten rules (bare schema) (algebra schema select) planning.hep → IsStartedFrom (bare schema) (algebra schema select) (tree_of planning.hep.result) old s
-    → IsExplored (bare schema) rules budget old (sets_of planning.memo) (map firing_of planning.firings) planning.complete
-    → StaysGrown (bare schema) rules old (sets_of planning.memo) [] (map firing_of planning.firings)
-    → planning.root ≡ became (sets_of planning.memo).numbers s → IsPlanned rules budget schema select planning
-planned-by rules budget schema select planning old s hep from explored grown root = record {
-  hep = hep;
+pub is-found : (rules : List Meaning) (budget : ℕ) (info : Info) (select : Select) (own result : Tree) (old new : Sets) (s root : ℕ) (firings : List Firing) (complete : Bool)
+    → KeepsTheSelect info select own → KeepsTheSelect info select result → IsStartedFrom info own result old s → IsExplored info rules budget old new firings complete
+    → StaysGrown info rules old new [] firings → root ≡ became new.numbers s → IsFound rules budget info select own result new root firings complete
+is-found rules budget info select own result old new s root firings complete own_keeps result_keeps from explored grown is = record {
   start = from.start;
   is_start = from.is_start;
-  explored = record {
-    root = still-stands old (sets_of planning.memo) s planning.root from.start explored.keeps from.started.no_hole from.started.stands root;
-    searched = explored.searched;
-    grown = grown.grown (from.start ∷ []) (record { none = λ tree among. alone-closed from.start tree from.started.no_hole among }) (from.started.grown rules);
-  };
+  no_hole = from.started.no_hole;
+  keeps = elim from.is_start [
+    | inl same ↦ subst (KeepsTheSelect info select) (sym same) result_keeps
+    | inr other ↦ subst (KeepsTheSelect info select) (sym other.0) own_keeps
+  ];
+  stands = still-stands old new s root from.start explored.keeps from.started.no_hole from.started.stands is;
+  searched = explored.searched;
+  grown = grown.grown (from.start ∷ []) (record { none = λ tree among. alone-closed from.start tree from.started.no_hole among }) (from.started.grown rules);
 }
 
 pub number-is : (numbers : List ℕ) (k : ℕ) → unwrap_or (slice_get numbers k) k ≡ became numbers k

@@ -1,13 +1,10 @@
 -- How a SELECT is planned.
-use Rattle.std.specs.Prelude.{◌≡◌, ◌↔◌, ℕ, List, [], ◌∷◌, length, map, IsTrue, IsSome}
-use Rattle.cal_value.specs.Order.{SameBag}
-use Rattle.cal_schema.specs.declared.database.Db.{Db}
+use Rattle.std.specs.Prelude.{◌≡◌, ◌↔◌, ℕ, List, [], ◌∷◌, length, map, IsTrue}
+use Rattle.cal_value.specs.declared.order.KeyOrder.{KeyOrder}
 use Rattle.cal_schema.specs.declared.schema.Schema.{Schema}
-use Rattle.cal_schema.specs.Fits.{Fits}
-use Rattle.cal_rel.specs.Bag.{bag}
-use Rattle.cal_rel.specs.Info.{Info, info_of}
+use Rattle.cal_snapshot.specs.Parts.{Parts}
+use Rattle.cal_rel.specs.Info.{Info}
 use Rattle.cal_rel.specs.Tree.{Tree, tree_of}
-use Rattle.cal_rel.specs.Typing.{type_of}
 use Rattle.memo_model.specs.Sets.{Stands}
 use Rattle.memo_sets.specs.Seen.{sets_of}
 use Rattle.rule_hep.specs.declared.planner.HepRecord.{HepRecord}
@@ -17,16 +14,18 @@ use Rattle.rule_hep.specs.Seen.{step_of}
 use Rattle.search_firings.specs.Seen.{firing_of}
 use Rattle.search_model.specs.Grown.{IsGrown}
 use Rattle.volcano_search.specs.Explored.{IsSearched}
+use Rattle.plan_nodes.specs.declared.traits.Convention.TheVariants.{Enumerable}
+use Rattle.phys_plan.specs.Spaces.{Space}
+use Rattle.plan_scans.specs.Scans.{info_over}
+use Rattle.plan_spaces.specs.Made.{made}
+use Rattle.volcano_best.specs.Solved.{IsCheapest}
 use Rattle.sql_tree.specs.declared.select.Select.{Select}
-use Rattle.sql_meaning.specs.Direct.{direct}
+use Rattle.sql_meaning.specs.Order.{keys_of}
+use Rattle.sql_meaning.specs.Scope.{scope_of}
 use Rattle.sql_algebra.specs.Algebra.{algebra}
 use Rattle.select_planning.specs.declared.planning.TheConstants.{HEP_LIMIT}
 use Rattle.select_planning.specs.declared.planning.Planning.{Planning}
 use Rattle.select_planning.specs.Start.{IsStart}
-
--- over no tiles and no sets
-abbrev pub bare : Schema → Info
-bare schema = info_of schema [] []
 
 -- The record is that of the steps by which these rules rewrite a tree, at most so many.
 pub record IsRewritten (rules : List Meaning) (info : Info) (tree : Tree) (hep : HepRecord) : Type 0 where
@@ -41,14 +40,22 @@ pub record IsExploredFrom (rules : List Meaning) (budget : ℕ) (info : Info) (s
   pub searched : IsSearched info rules budget (sets_of planning.memo) (map firing_of planning.firings) planning.complete
   pub grown : IsGrown info rules (start ∷ []) (sets_of planning.memo) (map firing_of planning.firings)
 
--- The SELECT's own tree is rewritten by these rules, and a memo is searched from the tree after the steps.
-pub record IsPlanned (rules : List Meaning) (budget : ℕ) (schema : Schema) (select : Select) (planning : Planning) : Type 0 where
-  pub hep : IsRewritten rules (bare schema) (algebra schema select) planning.hep
-  pub start : Tree
-  pub is_start : IsStart (bare schema) (algebra schema select) (tree_of planning.hep.result) start
-  pub explored : IsExploredFrom rules budget (bare schema) start planning
+-- what the plans of the memo are made of, over the snapshot
+abbrev pub space_of : Schema → Parts → Planning → Space
+space_of schema parts planning = made (info_over schema parts) (sets_of planning.memo) parts
 
--- the tree is well formed, and over each database that fits it means each row as often as the SELECT does
-pub record KeepsTheSelect (schema : Schema) (select : Select) (tree : Tree) : Type 0 where
-  pub well_formed : IsSome (type_of (bare schema) tree)
-  pub rows : (db : Db) → Fits db schema → SameBag (bag (bare schema) db (λ set. []) tree) (direct select schema db)
+-- The plan is one of the root set, in this order, and no such plan costs less; the estimate of each set is told, and the instance of each tile.
+pub record IsCheapestIn (schema : Schema) (parts : Parts) (order : List KeyOrder) (planning : Planning) : Type 0 where
+  pub traits : planning.traits ≡ record { convention = Enumerable; collation = order }
+  pub cheapest : IsCheapest (space_of schema parts planning) planning.root order (record { plan = planning.plan; cost = planning.cost })
+  pub estimates : planning.estimates ≡ (space_of schema parts planning).estimates
+  pub tiles : planning.tiles ≡ map (λ tile. tile.instance) parts.tiles
+
+-- The SELECT's own tree is rewritten by these rules, a memo is searched from the tree after the steps, and the plan is its cheapest one in
+-- the order that the SELECT asks.
+pub record IsPlanned (rules : List Meaning) (budget : ℕ) (schema : Schema) (parts : Parts) (select : Select) (planning : Planning) : Type 0 where
+  pub hep : IsRewritten rules (info_over schema parts) (algebra schema select) planning.hep
+  pub start : Tree
+  pub is_start : IsStart (info_over schema parts) (algebra schema select) (tree_of planning.hep.result) start
+  pub explored : IsExploredFrom rules budget (info_over schema parts) start planning
+  pub cheapest : IsCheapestIn schema parts (keys_of (scope_of schema select) select) planning

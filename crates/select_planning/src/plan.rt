@@ -11,16 +11,24 @@ ghost use Rattle.sql_algebra.specs.Formed.{IsFormed};
 ghost use Rattle.sql_meaning.specs.Order.{keys_of};
 ghost use Rattle.sql_meaning.specs.Scope.{scope_of};
 ghost use Rattle.sql_translate.specs.Translated.{IsAccepted};
-ghost use Rattle.select_planning.specs.Planned.{IsPlanned, IsRewritten, IsExploredFrom, KeepsTheSelect, bare};
+ghost use Rattle.plan_answers.specs.Answers.{KeepsTheSelect, AnswersTheSelect};
+ghost use Rattle.plan_meaning.specs.Memos.{AreApart};
+ghost use Rattle.search_firings.specs.Seen.{firing_of};
+ghost use Rattle.select_planning.specs.Found.{IsFound};
+ghost use Rattle.select_planning.specs.Planned.{IsPlanned, IsRewritten};
 ghost use Rattle.select_planning.specs.Start.{IsStartedFrom, IsStarted};
 
+use crate::cheapest::{cheapest_of, instances};
 use crate::planning::{HEP_LIMIT, Planning};
 use crate::start::seeded;
 use cal_rel::{PlanInfo, Rel};
 use cal_schema::Schema;
+use cal_snapshot::Snapshot;
 use cal_value::{Collation, List, NoMemory};
 use memo_sets::Memo;
+use plan_nodes::{Convention, Traits};
 use rule_hep::{HepRecord, Rule, hep};
+use search_firings::Firing;
 use sql_translate::translate;
 use sql_validator::CheckedSelect;
 use std::alloc::Global;
@@ -38,13 +46,16 @@ fn rewritten(
     requires valid { IsValidSchema schema.now }
     requires formed { IsFormed checked.now.select }
     requires accepted { IsAccepted schema.now checked.now }
-    requires info { info.now ≡ bare schema.now }
+    requires schema { info.now.schema ≡ schema.now }
+    requires sets { info.now.sets ≡ [] }
     ensures hep { IfOk result (λ made. IsRewritten (map (λ b. meaning b) rules.now)
-        (bare schema.now) (algebra schema.now checked.now.select) made.0) }
+        info.now (algebra schema.now checked.now.select) made.0) }
     ensures order { IfOk result (λ made.
         made.1 ≡ keys_of (scope_of schema.now checked.now.select) checked.now.select) }
-    ensures means { IfOk result (λ made.
-        KeepsTheSelect schema.now checked.now.select (tree_of made.0.result)) }
+    ensures own { IfOk result (λ made. KeepsTheSelect info.now checked.now.select
+        (algebra schema.now checked.now.select)) }
+    ensures keeps { IfOk result (λ made.
+        KeepsTheSelect info.now checked.now.select (tree_of made.0.result)) }
     ensures no_hole { IfOk result (λ made. EachHole (λ k. ⊥) (tree_of made.0.result)) }
 {
     let (tree, keys) = translate(alloc, checked, schema)?;
@@ -63,8 +74,9 @@ fn started_anew(
     requires valid { IsValidSchema schema.now }
     requires formed { IsFormed checked.now.select }
     requires accepted { IsAccepted schema.now checked.now }
-    requires info { info.now ≡ bare schema.now }
-    ensures { IfOk result (λ made. IsStarted (bare schema.now)
+    requires schema { info.now.schema ≡ schema.now }
+    requires sets { info.now.sets ≡ [] }
+    ensures { IfOk result (λ made. IsStarted info.now
         (algebra schema.now checked.now.select) (sets_of made.0) made.1) }
 {
     let (tree, _keys) = translate(alloc, checked, schema)?;
@@ -85,10 +97,11 @@ fn started(
     requires valid { IsValidSchema schema.now }
     requires formed { IsFormed checked.now.select }
     requires accepted { IsAccepted schema.now checked.now }
-    requires info { info.now ≡ bare schema.now }
-    requires well_formed { IsSome (type_of (bare schema.now) (tree_of tree.now)) }
+    requires schema { info.now.schema ≡ schema.now }
+    requires sets { info.now.sets ≡ [] }
+    requires well_formed { IsSome (type_of info.now (tree_of tree.now)) }
     requires no_hole { EachHole (λ k. ⊥) (tree_of tree.now) }
-    ensures { IfOk result (λ made. IsStartedFrom (bare schema.now)
+    ensures { IfOk result (λ made. IsStartedFrom info.now
         (algebra schema.now checked.now.select) (tree_of tree.now) (sets_of made.0) made.1) }
 {
     match seeded(alloc, info, tree)? {
@@ -105,40 +118,90 @@ fn root_in(memo: &Memo, set: u32) -> u32
     memo.now(set).unwrap_or(set)
 }
 
-/// Plans an accepted SELECT: its tree is rewritten by the rules that are `in_hep`, in at most `HEP_LIMIT` steps, and a memo is searched
-/// from the tree after them by all rules, in at most `budget` firings. Where that tree has more different parts than a memo may have
-/// members, the search begins with the SELECT's own tree. The keys of ORDER BY are answered beside. The SELECT is one that a text spells
-/// and that `validate` accepted over this schema, which is valid.
-pub fn plan_select(
+// The memo that was searched, the set in which the start tree stands, and the search.
+#[derive(Debug, Drop)]
+struct Searched {
+    memo: Memo,
+    root: u32,
+    firings: List<Firing>,
+    complete: bool,
+}
+
+// Searches a memo from the rewritten tree, or where that is too large from the SELECT's own tree.
+fn search(
     alloc: Global,
     checked: &CheckedSelect,
     schema: &Schema,
+    info: &PlanInfo,
+    tree: &Rel,
     rules: &[Box<dyn Rule>],
     budget: u32,
-) -> Result<(Planning, Collation), NoMemory>
+) -> Result<Searched, NoMemory>
     requires valid { IsValidSchema schema.now }
     requires formed { IsFormed checked.now.select }
     requires accepted { IsAccepted schema.now checked.now }
-    ensures planned { IfOk result (λ made. IsPlanned (map (λ b. meaning b) rules.now) budget
-        schema.now checked.now.select made.0) }
-    ensures order { IfOk result (λ made.
-        made.1 ≡ keys_of (scope_of schema.now checked.now.select) checked.now.select) }
-    ensures means { IfOk result (λ made.
-        KeepsTheSelect schema.now checked.now.select (tree_of made.0.hep.result)) }
+    requires schema { info.now.schema ≡ schema.now }
+    requires sets { info.now.sets ≡ [] }
+    requires own { KeepsTheSelect info.now checked.now.select
+        (algebra schema.now checked.now.select) }
+    requires keeps { KeepsTheSelect info.now checked.now.select (tree_of tree.now) }
+    requires no_hole { EachHole (λ k. ⊥) (tree_of tree.now) }
+    ensures { IfOk result (λ found. IsFound (map (λ b. meaning b) rules.now) budget info.now
+        checked.now.select (algebra schema.now checked.now.select) (tree_of tree.now)
+        (sets_of found.memo) found.root (map firing_of found.firings) found.complete) }
 {
-    let tiles = List::new(alloc);
-    let sets = List::new(alloc);
-    let info = PlanInfo::new(schema, &tiles, &sets);
-    let (hep, keys) = rewritten(alloc, checked, schema, &info, rules)?;
-    let (memo, set) = started(alloc, checked, schema, &info, &hep.result)?;
-    let explored = explore(alloc, memo, rules, &info, budget)?;
+    let (memo, set) = started(alloc, checked, schema, info, tree)?;
+    let explored = explore(alloc, memo, rules, info, budget)?;
     let root = root_in(&explored.memo, set);
-    let planning = Planning {
-        hep,
+    Ok(Searched {
         memo: explored.memo,
         root,
         firings: explored.firings,
         complete: explored.complete,
-    };
-    Ok((planning, keys))
+    })
+}
+
+/// Plans an accepted SELECT over a snapshot: its tree is rewritten by the rules that are `in_hep`, in at most `HEP_LIMIT` steps, a memo is
+/// searched from the tree after them by all rules, in at most `budget` firings, and the plan is the cheapest one of the memo in the order that
+/// the SELECT asks. Where that tree has more different parts than a memo may have members, the search begins with the SELECT's own tree. The
+/// SELECT is one that a text spells and that `validate` accepted over this schema, which is valid. No two tiles of the snapshot are of one
+/// instance.
+pub fn plan_select(
+    alloc: Global,
+    checked: &CheckedSelect,
+    schema: &Schema,
+    snapshot: &Snapshot,
+    rules: &[Box<dyn Rule>],
+    budget: u32,
+) -> Result<Planning, NoMemory>
+    requires valid { IsValidSchema schema.now }
+    requires formed { IsFormed checked.now.select }
+    requires accepted { IsAccepted schema.now checked.now }
+    requires apart { AreApart snapshot.now.tiles }
+    ensures planned { IfOk result (IsPlanned (map (λ b. meaning b) rules.now) budget
+        schema.now snapshot.now checked.now.select) }
+    ensures answers { IfOk result (λ planning. AnswersTheSelect schema.now snapshot.now
+        (sets_of planning.memo) checked.now.select planning.plan) }
+{
+    let sets = List::new(alloc);
+    let info = PlanInfo::new(schema, snapshot.tiles(), &sets);
+    let (hep, keys) = rewritten(alloc, checked, schema, &info, rules)?;
+    let found = search(alloc, checked, schema, &info, &hep.result, rules, budget)?;
+    let (best, estimates) = cheapest_of(alloc, &found.memo, found.root, &keys, schema, snapshot)?;
+    let tiles = instances(alloc, snapshot.tiles())?;
+    Ok(Planning {
+        plan: best.plan,
+        cost: best.cost,
+        traits: Traits {
+            convention: Convention::Enumerable,
+            collation: keys,
+        },
+        hep,
+        memo: found.memo,
+        root: found.root,
+        firings: found.firings,
+        complete: found.complete,
+        estimates,
+        tiles,
+    })
 }

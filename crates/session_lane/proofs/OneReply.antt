@@ -1,7 +1,9 @@
 -- Two right replies to a text are the same up to the order of rows.
-use Rattle.std.proofs.Common.{◌≡◌, ◌≤◌, ◌<◌, ℕ, List, Option, Some, None, ◌⊎◌, inl, inr, sym, ap, subst, ◌∙◌, arith, refl}
-use Rattle.std.specs.Prelude.{◌≢◌, count_by, map, []}
+use Rattle.std.proofs.Common.{◌≡◌, ℕ, List, Option, Some, None, ◌⊎◌, inl, inr, sym, ap, subst, ◌∙◌, arith, refl}
+use Rattle.std.specs.Prelude.{◌≢◌, count_by}
 use Rattle.cal_schema.specs.declared.database.Db.{Db}
+use Rattle.cal_snapshot.specs.Parts.{Parts}
+use Rattle.plan_scans.specs.Scans.{tables_of}
 use Rattle.cal_schema.specs.declared.refusal.Refusal.{Refusal}
 use Rattle.cal_schema.specs.declared.refusal.Refusal.TheVariants as refused
 use Rattle.cal_schema.specs.declared.schema.Schema.{Schema}
@@ -10,15 +12,15 @@ use Rattle.cal_value.specs.Equal.{row_eq}
 use Rattle.cal_value.specs.Order.{SameBag}
 use Rattle.rule_hep.specs.Meaning.{Meaning}
 use Rattle.rule_hep.specs.Run.{hep_run}
-use Rattle.rule_hep.specs.Seen.{step_of}
 use Rattle.sql_algebra.specs.Algebra.{algebra}
 use Rattle.session_lane.specs.declared.answer.Answer.{Answer}
 use Rattle.select_planning.specs.declared.planning.TheConstants.{HEP_LIMIT}
 use Rattle.select_planning.specs.declared.planning.Planning.{Planning}
-use Rattle.select_planning.specs.Planned.{bare, IsPlanned}
+use Rattle.plan_scans.specs.Scans.{info_over}
+use Rattle.select_planning.specs.Planned.{IsPlanned}
 use Rattle.session_lane.specs.declared.reply.Cause.TheVariants.{Text}
 use Rattle.session_lane.specs.declared.reply.Reply.{Reply}
-use Rattle.session_lane.specs.declared.reply.Reply.TheVariants.{Rows, Refused}
+use Rattle.session_lane.specs.declared.reply.Reply.TheVariants.{Rows, Plan, Memo, Refused}
 use Rattle.sql_parser.specs.Answers.{HasFault, IsStatement, IsWithinLimits, IsFaultOf}
 use Rattle.sql_parser.specs.Grammar.{Spells}
 use Rattle.sql_expressions.specs.declared.fault.ParseFault.{ParseFault}
@@ -26,14 +28,14 @@ use Rattle.sql_expressions.specs.declared.fault.ParseFault.TheVariants as parse
 use Rattle.sql_text.specs.Tokens.{HasTokens, StopsAt}
 use Rattle.sql_tree.specs.declared.select.Select.{Select}
 use Rattle.sql_tree.specs.declared.statement.Statement.{Statement}
-use Rattle.sql_tree.specs.declared.statement.Statement.TheVariants.{Select as SelectOf}
+use Rattle.sql_tree.specs.declared.statement.Statement.TheVariants.{Select as SelectOf, ExplainPlan, ExplainMemo}
 use Rattle.sql_text.specs.declared.token.Token.{Token}
 use Rattle.sql_meaning.specs.Answer.{IsAnswer}
 use Rattle.sql_meaning.specs.Direct.{direct}
 use Rattle.sql_meaning.specs.Names.{output_names}
 use Rattle.sql_meaning.specs.Scope.{scope_of}
 use Rattle.session_lane.specs.Statements.{IsNoStatement}
-use Rattle.session_lane.specs.Replies.{IsAnswered, Answers, AnswersText, AreSameReplies, TellsNoStatement, IsReplyTo}
+use Rattle.session_lane.specs.Replies.{IsAnswered, IsExplained, AreSameSteps, Answers, AreSameReplies, TellsNoStatement, IsReplyTo}
 
 -- what is known of texts and tokens
 pub record ReadOneWay : Type 0 where
@@ -145,6 +147,21 @@ never_both way text x a p q = by_why (why text a q)
 select_same : (a b : Select) → SelectOf a ≡ SelectOf b → a ≡ b
 select_same a b e = Prim.cc
 
+plan_same : (a b : Select) → ExplainPlan a ≡ ExplainPlan b → a ≡ b
+plan_same a b e = Prim.cc
+
+memo_same : (a b : Select) → ExplainMemo a ≡ ExplainMemo b → a ≡ b
+memo_same a b e = Prim.cc
+
+rows_no_plan : (a b : Select) → SelectOf a ≡ ExplainPlan b → ⊥
+rows_no_plan a b e = Prim.cc
+
+rows_no_memo : (a b : Select) → SelectOf a ≡ ExplainMemo b → ⊥
+rows_no_memo a b e = Prim.cc
+
+plan_no_memo : (a b : Select) → ExplainPlan a ≡ ExplainMemo b → ⊥
+plan_no_memo a b e = Prim.cc
+
 some_same : (a b : Refusal) → Some a ≡ Some b → a ≡ b
 some_same a b e = Prim.cc
 
@@ -154,43 +171,67 @@ none_some a e = Prim.cc
 same_bag : (schema : Schema) (db : Db) (s t : Select) (rows rows' : List (List Value)) → s ≡ t → IsAnswer s schema db rows → IsAnswer t schema db rows' → SameBag rows rows'
 same_bag schema db s t rows rows' e p q = λ r. p.bag r ∙ ap (λ (x : Select). count_by (row_eq r) (direct x schema db)) e ∙ sym (q.bag r)
 
-same_log : (rules : List Meaning) (budget : ℕ) (schema : Schema) (s t : Select) (a b : Planning) → s ≡ t → IsPlanned rules budget schema s a → IsPlanned rules budget schema t b → map step_of a.hep.log ≡ map step_of b.hep.log
-same_log rules budget schema s t a b e p q = p.hep.log ∙ ap (λ (x : Select). hep_run HEP_LIMIT rules (bare schema) (algebra schema x)) e ∙ sym q.hep.log
-
-same_rows : (rules : List Meaning) (budget : ℕ) (schema : Schema) (db : Db) (s : Statement) (at at' : ℕ) (names names' : List (List ℕ)) (a b : Answer)
-    → IsAnswered rules budget schema db s at names a → IsAnswered rules budget schema db s at' names' b
-    → (at ≡ at') × (names ≡ names') × SameBag a.rows b.rows × (map step_of a.planning.hep.log ≡ map step_of b.planning.hep.log)
-same_rows rules budget schema db s at at' names names' a b p q =
-    let select = select_same p.select q.select (sym p.is_select ∙ q.is_select) in
-    let names_same : names ≡ names' = p.names_are ∙ ap (λ (x : Select). output_names (scope_of schema x) x.items) select ∙ sym q.names_are in (
-      p.place ∙ sym q.place,
-      names_same,
-      same_bag schema db p.select q.select a.rows b.rows select p.rows_are q.rows_are,
-      same_log rules budget schema p.select q.select a.planning b.planning select p.planned q.planned,
-    )
-
 same_refused : (at at' : Option ℕ) (a b : Refusal) → at ≡ None → at' ≡ None → a ≡ b → (at ≡ at') × (Text a ≡ Text b)
 same_refused at at' a b p q e = (p ∙ sym q, ap (λ (c : Refusal). Text c) e)
 
-same_answer : (rules : List Meaning) (budget : ℕ) (schema : Schema) (db : Db) (s : Statement) (a b : Reply) → Answers rules budget schema db s a → Answers rules budget schema db s b → AreSameReplies a b
-same_answer rules budget schema db s (Rows at names answer) (Rows at' names' answer') p q = same_rows rules budget schema db s at at' names names' answer answer' p q
-same_answer rules budget schema db s (Rows at names answer) (Refused at' (Text c)) p q = absurd (none_some c (sym p.accepted ∙ q.1))
-same_answer rules budget schema db s (Refused at (Text c)) (Rows at' names' answer') p q = absurd (none_some c (sym q.accepted ∙ p.1))
-same_answer rules budget schema db s (Refused at (Text c)) (Refused at' (Text c')) p q = same_refused at at' c c' p.0 q.0 (some_same c c' (sym p.1 ∙ q.1))
+module _ (rules : List Meaning) (budget : ℕ) (schema : Schema) (parts : Parts) where
+  same_steps : (s t : Select) (a b : Planning) → s ≡ t → IsPlanned rules budget schema parts s a → IsPlanned rules budget schema parts t b → AreSameSteps a b
+  same_steps s t a b e p q = p.hep.log ∙ ap (λ (x : Select). hep_run HEP_LIMIT rules (info_over schema parts) (algebra schema x)) e ∙ sym q.hep.log
+
+  same_rows : (s : Statement) (at at' : ℕ) (names names' : List (List ℕ)) (a b : Answer) → IsAnswered rules budget schema parts s at names a → IsAnswered rules budget schema parts s at' names' b
+      → (at ≡ at') × (names ≡ names') × SameBag a.rows b.rows × AreSameSteps a.planning b.planning
+  same_rows s at at' names names' a b p q =
+      let select = select_same p.select q.select (sym p.is_select ∙ q.is_select) in
+      let names_same : names ≡ names' = p.names_are ∙ ap (λ (x : Select). output_names (scope_of schema x) x.items) select ∙ sym q.names_are in (
+        p.place ∙ sym q.place,
+        names_same,
+        same_bag schema (tables_of parts) p.select q.select a.rows b.rows select p.rows_are q.rows_are,
+        same_steps p.select q.select a.planning b.planning select p.planned q.planned,
+      )
+
+  same_explained : (explain : Select → Statement) (one : (x y : Select) → explain x ≡ explain y → x ≡ y) (s : Statement) (at at' : ℕ) (a b : Planning)
+      → IsExplained rules budget schema parts explain s at a → IsExplained rules budget schema parts explain s at' b → (at ≡ at') × AreSameSteps a b
+  same_explained explain one s at at' a b p q =
+      (p.place ∙ sym q.place, same_steps p.select q.select a b (one p.select q.select (sym p.is_explained ∙ q.is_explained)) p.planned q.planned)
+
+  same_answer : (s : Statement) (a b : Reply) → Answers rules budget schema parts s a → Answers rules budget schema parts s b → AreSameReplies a b
+  same_answer s (Rows at names answer) (Rows at' names' answer') p q = same_rows s at at' names names' answer answer' p q
+  same_answer s (Rows at names answer) (Plan at' planning) p q = absurd (rows_no_plan p.select q.select (sym p.is_select ∙ q.is_explained))
+  same_answer s (Rows at names answer) (Memo at' planning) p q = absurd (rows_no_memo p.select q.select (sym p.is_select ∙ q.is_explained))
+  same_answer s (Rows at names answer) (Refused at' (Text c)) p q = absurd (none_some c (sym p.accepted ∙ q.1))
+  same_answer s (Plan at planning) (Rows at' names answer) p q = absurd (rows_no_plan q.select p.select (sym q.is_select ∙ p.is_explained))
+  same_answer s (Plan at planning) (Plan at' planning') p q = same_explained ExplainPlan plan_same s at at' planning planning' p q
+  same_answer s (Plan at planning) (Memo at' planning') p q = absurd (plan_no_memo p.select q.select (sym p.is_explained ∙ q.is_explained))
+  same_answer s (Plan at planning) (Refused at' (Text c)) p q = absurd (none_some c (sym p.accepted ∙ q.1))
+  same_answer s (Memo at planning) (Rows at' names answer) p q = absurd (rows_no_memo q.select p.select (sym q.is_select ∙ p.is_explained))
+  same_answer s (Memo at planning) (Plan at' planning') p q = absurd (plan_no_memo q.select p.select (sym q.is_explained ∙ p.is_explained))
+  same_answer s (Memo at planning) (Memo at' planning') p q = same_explained ExplainMemo memo_same s at at' planning planning' p q
+  same_answer s (Memo at planning) (Refused at' (Text c)) p q = absurd (none_some c (sym p.accepted ∙ q.1))
+  same_answer s (Refused at (Text c)) (Rows at' names' answer') p q = absurd (none_some c (sym q.accepted ∙ p.1))
+  same_answer s (Refused at (Text c)) (Plan at' planning') p q = absurd (none_some c (sym q.accepted ∙ p.1))
+  same_answer s (Refused at (Text c)) (Memo at' planning') p q = absurd (none_some c (sym q.accepted ∙ p.1))
+  same_answer s (Refused at (Text c)) (Refused at' (Text c')) p q = same_refused at at' c c' p.0 q.0 (some_same c c' (sym p.1 ∙ q.1))
 
 same_none : ReadOneWay → (text : List ℕ) (a b : Reply) → TellsNoStatement text a → TellsNoStatement text b → AreSameReplies a b
 same_none way text (Rows at names answer) b p q = absurd p
+same_none way text (Plan at planning) b p q = absurd p
+same_none way text (Memo at planning) b p q = absurd p
 same_none way text (Refused at (Text c)) (Rows at' names' answer') p q = absurd q
+same_none way text (Refused at (Text c)) (Plan at' planning') p q = absurd q
+same_none way text (Refused at (Text c)) (Memo at' planning') p q = absurd q
 same_none way text (Refused at (Text c)) (Refused at' (Text c')) p q = same_refused at at' c c' p.0 q.0 (same_refusal way text c c' p.1 q.1)
 
 not_both : ReadOneWay → (text : List ℕ) (x : Statement) (b : Reply) → IsStatement text x → TellsNoStatement text b → ⊥
 not_both way text x (Rows at names answer) p q = q
+not_both way text x (Plan at planning) p q = q
+not_both way text x (Memo at planning) p q = q
 not_both way text x (Refused at (Text c)) p q = never_both way text x c p q.1
 
-pub one_reply : ReadOneWay → (rules : List Meaning) (budget : ℕ) (schema : Schema) (db : Db) (text : List ℕ) (a b : Reply) → IsReplyTo rules budget schema db text a → IsReplyTo rules budget schema db text b → AreSameReplies a b
-one_reply way rules budget schema db text a b (inl p) (inl q) =
+pub one_reply : ReadOneWay → (rules : List Meaning) (budget : ℕ) (schema : Schema) (parts : Parts) (text : List ℕ) (a b : Reply) → IsReplyTo rules budget schema parts text a → IsReplyTo rules budget schema parts text b
+    → AreSameReplies a b
+one_reply way rules budget schema parts text a b (inl p) (inl q) =
     let s = same_statement way text q.statement p.statement q.is_statement p.is_statement in
-    same_answer rules budget schema db p.statement a b p.answers (subst (λ (x : Statement). Answers rules budget schema db x b) s q.answers)
-one_reply way rules budget schema db text a b (inl p) (inr q) = absurd (not_both way text p.statement b p.is_statement q)
-one_reply way rules budget schema db text a b (inr p) (inl q) = absurd (not_both way text q.statement a q.is_statement p)
-one_reply way rules budget schema db text a b (inr p) (inr q) = same_none way text a b p q
+    same_answer rules budget schema parts p.statement a b p.answers (subst (λ (x : Statement). Answers rules budget schema parts x b) s q.answers)
+one_reply way rules budget schema parts text a b (inl p) (inr q) = absurd (not_both way text p.statement b p.is_statement q)
+one_reply way rules budget schema parts text a b (inr p) (inl q) = absurd (not_both way text q.statement a q.is_statement p)
+one_reply way rules budget schema parts text a b (inr p) (inr q) = same_none way text a b p q

@@ -1,5 +1,5 @@
 -- A SELECT that tokens spell has an entry of FROM, before which nothing stands, and an item.
-use Rattle.std.proofs.Common.{◌≡◌, ℕ, true, refl, arith, List, [], ◌∷◌}
+use Rattle.std.proofs.Common.{◌≡◌, ℕ, true, refl, arith, List, ◌∷◌}
 use Rattle.std.proofs.lemmas.Bool.Decides.{nat_tests}
 use Rattle.sql_text.specs.declared.token.Token.{Token}
 use Rattle.sql_tree.specs.declared.select.FromEntry.{FromEntry}
@@ -36,8 +36,8 @@ select-formed _ _ _ (select {p} {ds} {is} {fs} {i = i} {f = f} d it fr w g h o) 
 
 body-formed : (ts : List Token) (s : Statement) → IsBody ts s → IsFormedStatement s
 body-formed _ _ (query {ts} {q} h) = select-formed 0 ts q h
-body-formed _ _ (explain_plan h) = tt
-body-formed _ _ (explain_memo h) = tt
+body-formed _ _ (explain_plan h) = select-formed _ _ _ h
+body-formed _ _ (explain_memo h) = select-formed _ _ _ h
 body-formed _ _ (insert t rows) = tt
 body-formed _ _ (refresh t) = tt
 body-formed _ _ (create_tile t) = tt

@@ -36,15 +36,9 @@ not_a_query (CreateTile tile) = Some refused.NotAQuery
 not_a_query (DropTile tile) = Some refused.NotAQuery
 not_a_query (ChooseTiles lattice limit) = Some refused.NotAQuery
 
--- EXPLAIN isn't answered yet
-abbrev pub not_yet : Statement → Option Refusal
-not_yet (ExplainPlan select) = Some refused.NotYet
-not_yet (ExplainMemo select) = Some refused.NotYet
-not_yet s = None
-
 -- the first cause that holds
 abbrev pub refusal : Schema → Statement → Option Refusal
-refusal schema s = first_of (not_a_query s ∷ not_yet s ∷ refusal_in schema s ∷ [])
+refusal schema s = first_of (not_a_query s ∷ refusal_in schema s ∷ [])
 
 -- ---- what the parser says of tokens: a word of private contracts
 
@@ -55,14 +49,24 @@ IsParseRefusal tokens refused.NotSql = IsFaultOf tokens parse.NotSql
 IsParseRefusal tokens refused.NoMemory = ⊤
 IsParseRefusal tokens r = ⊥
 
--- ---- what the validator answers for a SELECT: a word of private contracts
+-- ---- what the validator answers for each kind of query: words of private contracts
 
 abbrev pub IsOfSelect : Checked → Type 0
 IsOfSelect (checked.Select made) = ⊤
 IsOfSelect made = ⊥
 
--- ---- the form that the grammar gives a SELECT: a word of private contracts
+abbrev pub IsOfPlan : Checked → Type 0
+IsOfPlan (checked.ExplainPlan made) = ⊤
+IsOfPlan made = ⊥
+
+abbrev pub IsOfMemo : Checked → Type 0
+IsOfMemo (checked.ExplainMemo made) = ⊤
+IsOfMemo made = ⊥
+
+-- ---- the form that the grammar gives a query: a word of private contracts
 
 abbrev pub IsFormedStatement : Statement → Type 0
 IsFormedStatement (SelectOf select) = IsFormed select
+IsFormedStatement (ExplainPlan select) = IsFormed select
+IsFormedStatement (ExplainMemo select) = IsFormed select
 IsFormedStatement s = ⊤

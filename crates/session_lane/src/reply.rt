@@ -1,6 +1,7 @@
 use crate::answer::Answer;
 use cal_schema::Refusal;
 use cal_value::{List, SqlText};
+use select_planning::Planning;
 
 /// The cause of a refusal: here always one of the text.
 #[derive(Debug, Drop)]
@@ -15,6 +16,14 @@ pub enum Reply {
         at: u64,
         names: List<SqlText>,
         answer: Answer,
+    },
+    Plan {
+        at: u64,
+        planning: Planning,
+    },
+    Memo {
+        at: u64,
+        planning: Planning,
     },
     Refused {
         at: Option<u64>,

@@ -28,6 +28,8 @@ fn store_of(alloc: Global, model: &str) -> Result<MemStore, NoMemory> {
 fn planning_in(reply: Option<Reply>) -> Option<Planning> {
     match reply {
         Some(Reply::Rows { answer, .. }) => Some(answer.planning),
+        Some(Reply::Plan { planning, .. }) => Some(planning),
+        Some(Reply::Memo { planning, .. }) => Some(planning),
         Some(Reply::Refused { .. }) => None,
         None => None,
     }

@@ -5,7 +5,7 @@ use rule_hep::Rule;
 use std::alloc::Global;
 
 const MODEL: &str =
-    r#"{"defaultSchema":"S","schemas":[{"name":"S","tables":[{"name":"T1","factory":"cal.MemTableFactory","operand":{"columns":["A:int"],"rows":[[1],[2]]}},{"name":"T2","factory":"cal.MemTableFactory","operand":{"columns":["A:int"],"rows":[]}},{"name":"T4","factory":"cal.MemTableFactory","operand":{"columns":["A:int"],"rows":[[null],[1],[2]]}},{"name":"T5","factory":"cal.MemTableFactory","operand":{"columns":["A:int"],"rows":[[null],[null],[1]]}},{"name":"U6","factory":"cal.MemTableFactory","operand":{"columns":["B:int"],"rows":[[3]]}},{"name":"W7","factory":"cal.MemTableFactory","operand":{"columns":["H:short","X:long","Y:long","Z:long"],"rows":[]}},{"name":"T8","factory":"cal.MemTableFactory","operand":{"columns":["A:int","B:int"],"rows":[[-3,2]]}},{"name":"T9","factory":"cal.MemTableFactory","operand":{"columns":["A:int","B:int"],"rows":[[1,null],[1,2],[null,5],[2,7],[1,2]]}}]}]}"#;
+    r#"{"defaultSchema":"S","schemas":[{"name":"S","tables":[{"name":"T1","factory":"cal.MemTableFactory","operand":{"columns":["A:int"],"rows":[[1],[2]]}},{"name":"T2","factory":"cal.MemTableFactory","operand":{"columns":["A:int"],"rows":[]}},{"name":"T4","factory":"cal.MemTableFactory","operand":{"columns":["A:int"],"rows":[[null],[1],[2]]}},{"name":"T5","factory":"cal.MemTableFactory","operand":{"columns":["A:int"],"rows":[[null],[null],[1]]}},{"name":"U6","factory":"cal.MemTableFactory","operand":{"columns":["B:int"],"rows":[[3]]}},{"name":"WIDE","factory":"cal.MemTableFactory","operand":{"columns":["H:short","X:long","Y:long","Z:long"],"rows":[]}},{"name":"T8","factory":"cal.MemTableFactory","operand":{"columns":["A:int","B:int"],"rows":[[-3,2]]}},{"name":"T9","factory":"cal.MemTableFactory","operand":{"columns":["A:int","B:int"],"rows":[[1,null],[1,2],[null,5],[2,7],[1,2]]}}]}]}"#;
 
 // The statement and its rows.
 const ANSWERS: &[(&str, &str)] = &[
@@ -28,9 +28,9 @@ const ANSWERS: &[(&str, &str)] = &[
         "SELECT A, B FROM T1 LEFT JOIN U6 ON A = B WHERE B IS NULL ORDER BY A",
         "A, B\n1, NULL\n2, NULL\n",
     ),
-    ("SELECT H * X FROM W7", "EXPR$0\n"),
+    ("SELECT H * X FROM WIDE", "EXPR$0\n"),
     (
-        "SELECT 99999999999999999999999999999999999999 FROM W7",
+        "SELECT 99999999999999999999999999999999999999 FROM WIDE",
         "EXPR$0\n",
     ),
     ("SELECT A / 2 FROM T8", "EXPR$0\n-1\n"),

@@ -323,7 +323,6 @@ fn rewritten_text(
     }
 }
 
-#[tactic(auto, using(select_planning::proofs::Kept::select_rules))]
 fn translated_text(
     alloc: Global,
     made: &CheckedSelect,
@@ -334,10 +333,8 @@ fn translated_text(
     requires formed { IsFormed made.now.select }
     requires accepted { IsAccepted schema.now made.now }
 {
-    match translate(alloc, made, schema) {
-        Ok((tree, order)) => rewritten_text(alloc, tree, &order, schema, rules),
-        Err(no_memory) => Err(no_memory),
-    }
+    let (tree, order) = translate(alloc, made, schema)?;
+    rewritten_text(alloc, tree, &order, schema, rules)
 }
 
 fn translated(

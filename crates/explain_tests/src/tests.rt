@@ -1,0 +1,2 @@
+mod explained;
+mod run;

@@ -1,4 +1,0 @@
-pub mod Joins
-pub mod Passes
-pub mod SplitLemmas
-pub mod Walks

@@ -1,4 +1,0 @@
-pub mod Pass
-pub mod Ready
-pub mod Size
-pub mod Split
