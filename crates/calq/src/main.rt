@@ -2,7 +2,7 @@
 #![tactic(auto)]
 
 use cal_outside::{FileStore, StdSink, Word};
-use cal_top::run_query;
+use cal_top::{QueryRecord, run_query};
 use cal_value::{List, NoMemory};
 use rule_hep::Rule;
 use rules_agg::{AggregateProjectMerge, AggregateRemove};
@@ -35,6 +35,21 @@ fn words<R: Env + AllocGlobal>(rt: &R) -> Result<List<Word>, NoMemory> {
     Ok(words)
 }
 
+// The status. A record is large, and dropped by `drop`, which is proved once.
+fn status_of(record: QueryRecord) -> u8 {
+    let status = record.status;
+    drop(record);
+    status
+}
+
+fn run_by(rt: &HostRuntime, rules: &[Box<dyn Rule>]) -> Result<u8, NoMemory> {
+    let words = words(rt)?;
+    let mut store = FileStore::new(rt);
+    let mut out = StdSink::new(rt);
+    let record = run_query(rt.alloc(), words.as_slice(), &mut store, &mut out, rules);
+    Ok(status_of(record))
+}
+
 // The status of the run, by the rules in this order.
 fn run(rt: &HostRuntime) -> Result<u8, NoMemory> {
     let alloc = rt.alloc();
@@ -52,11 +67,7 @@ fn run(rt: &HostRuntime) -> Result<u8, NoMemory> {
         Box::new(alloc, JoinCommute::new())?,
         Box::new(alloc, JoinAssociate::new())?,
     ];
-    let words = words(rt)?;
-    let mut store = FileStore::new(rt);
-    let mut out = StdSink::new(rt);
-    let record = run_query(alloc, words.as_slice(), &mut store, &mut out, &rules);
-    Ok(record.status)
+    run_by(rt, &rules)
 }
 
 fn main(rt: HostRuntime) -> ExitCode {

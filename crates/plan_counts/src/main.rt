@@ -2,7 +2,7 @@
 //! there were, and whether nothing was left to fire.
 #![tactic(auto)]
 
-use cal_outside::{FileStore, MemSink, Sink, StdSink, Word, write_all_text};
+use cal_outside::{FileStore, MemSink, Sink, StdSink, Store, Word, write_all_text};
 use cal_top::run_query;
 use cal_value::{List, NoMemory};
 use rule_hep::Rule;
@@ -30,6 +30,17 @@ fn words<R: Env + AllocGlobal>(rt: &R) -> Result<List<Word>, NoMemory> {
     Ok(words)
 }
 
+// How the statement is planned, where it is answered or explained.
+fn planning_in(reply: Option<Reply>) -> Option<Planning> {
+    match reply {
+        Some(Reply::Rows { answer, .. }) => Some(answer.planning),
+        Some(Reply::Plan { planning, .. }) => Some(planning),
+        Some(Reply::Memo { planning, .. }) => Some(planning),
+        Some(Reply::Refused { .. }) => None,
+        None => None,
+    }
+}
+
 /// Writes the counts on a line.
 fn write_counts<K: Sink>(alloc: Global, planning: &Planning, out: &mut K) -> u8 {
     let members = planning.memo.members().len();
@@ -42,6 +53,36 @@ fn write_counts<K: Sink>(alloc: Global, planning: &Planning, out: &mut K) -> u8 
     match write_all_text(out, text.as_bytes()) {
         Ok(()) => 0,
         Err(_) => 6,
+    }
+}
+
+fn reply<S: Store>(
+    alloc: Global,
+    words: &List<Word>,
+    store: &mut S,
+    rows: &mut MemSink,
+    rules: &[Box<dyn Rule>],
+) -> Option<Reply> {
+    run_query(alloc, words.as_slice(), store, rows, rules).reply
+}
+
+// The planning is large, and dropped by `drop`, which is proved once.
+fn told(rt: &HostRuntime, planning: Planning) -> u8 {
+    let mut out = StdSink::new(rt);
+    let status = write_counts(rt.alloc(), &planning, &mut out);
+    drop(planning);
+    status
+}
+
+fn run_by(rt: &HostRuntime, rules: &[Box<dyn Rule>]) -> Result<u8, NoMemory> {
+    let alloc = rt.alloc();
+    let words = words(rt)?;
+    let mut store = FileStore::new(rt);
+    let mut rows = MemSink::new(alloc, 1000, List::new(alloc));
+    let reply = reply(alloc, &words, &mut store, &mut rows, rules);
+    match planning_in(reply) {
+        Some(planning) => Ok(told(rt, planning)),
+        None => Ok(1),
     }
 }
 
@@ -62,18 +103,7 @@ fn run(rt: &HostRuntime) -> Result<u8, NoMemory> {
         Box::new(alloc, JoinCommute::new())?,
         Box::new(alloc, JoinAssociate::new())?,
     ];
-    let words = words(rt)?;
-    let mut store = FileStore::new(rt);
-    let mut rows = MemSink::new(alloc, 1000, List::new(alloc));
-    let reply = run_query(alloc, words.as_slice(), &mut store, &mut rows, &rules).reply;
-    let mut out = StdSink::new(rt);
-    match reply {
-        Some(Reply::Rows { answer, .. }) => Ok(write_counts(alloc, &answer.planning, &mut out)),
-        Some(Reply::Plan { planning, .. }) => Ok(write_counts(alloc, &planning, &mut out)),
-        Some(Reply::Memo { planning, .. }) => Ok(write_counts(alloc, &planning, &mut out)),
-        Some(Reply::Refused { .. }) => Ok(1),
-        None => Ok(1),
-    }
+    run_by(rt, &rules)
 }
 
 fn main(rt: HostRuntime) -> ExitCode {

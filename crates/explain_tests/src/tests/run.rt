@@ -46,7 +46,10 @@ fn status(
     sink: &mut MemSink,
     rules: &[Box<dyn Rule>],
 ) -> u8 {
-    run_query(alloc, words.as_slice(), store, sink, rules).status
+    let record = run_query(alloc, words.as_slice(), store, sink, rules);
+    let status = record.status;
+    drop(record);
+    status
 }
 
 // Whether the SELECT behind these words is answered by this text.
